@@ -1,0 +1,13 @@
+-- Searches over numbers, by a test. Assumes nothing.
+use mathlib.Core.Bool.{Bool, cond}
+use Prim.Native.Nat.{ℕ, zero, suc}
+
+-- the smallest number from s on that passes the test, among n of them; s + n where none does
+unfoldable pub least : (ℕ → Bool) → ℕ → ℕ → ℕ
+least p zero s = s
+least p (suc n) s = let later = least p n (suc s) in cond (p s) s later
+
+-- the largest number from n down that passes the test; 0 where none does
+unfoldable pub greatest : (ℕ → Bool) → ℕ → ℕ
+greatest p zero = 0
+greatest p (suc n) = let lower = greatest p n in cond (p (suc n)) (suc n) lower

@@ -1,0 +1,9 @@
+-- Laws, for the proofs of every crate.
+-- tests and what they tell
+pub mod Tests
+-- the least and the greatest number that passes a test
+pub mod Search
+-- equal lists, tables and stretches
+pub mod Lists
+-- rooms after a call, and while a loop fills them
+pub mod Rooms
