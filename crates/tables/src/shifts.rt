@@ -14,7 +14,7 @@ ghost use Rattle.basics.specs.Rooms.{front, Begins};
 ghost use Rattle.tables.specs.Suffix.{suffixTable};
 ghost use Rattle.tables.specs.Shift.{shiftTable};
 ghost use Rattle.tables.specs.Refusal.{longest};
-ghost use Rattle.tables.specs.laws.Figure11.{ends, above, spreadAt, matchAt};
+ghost use Rattle.tables.specs.laws.Figure11.{ends, above, spreadAt};
 
 // Fills the front of a room that is long enough; suff has the suffix table in front.
 pub(crate) fn fill(x: &[u8], suff: &[u32], room: &mut [u32])

@@ -1,7 +1,7 @@
 -- `tables::occurrence` meets its contract: the value for each refusal is `valueAfter`'s.
 -- Assumes nothing.
 use borrow.Author.Needs.{needs}
-use mathlib.Core.Path.{_≡_, sym, _∙_}
+use mathlib.Core.Path.{sym, _∙_}
 use native.Mathlib.Omega.{arith}
 use lib.ListN.{length}
 use Rattle.tables.specs.Occurrence.{occurrenceTable}
@@ -9,8 +9,6 @@ use Rattle.tables.specs.laws.Refusal.{sized}
 use Rattle.tables.specs.laws.Occurrence.{occurrence-by, value-refused}
 use Rattle.tables.proofs.occurrence.Statement.{statement}
 use Rattle.tables.proofs.occurrence.Tie as tie
-use Rattle.tables.proofs.occurrence.Reads as reads
-use Rattle.tables.proofs.occurrence.Lts as lts
 
 causes-requires : tie.Need-causes-requires
 causes-requires c κs = search needs

@@ -1,6 +1,6 @@
 -- The shift table in linear time, out of the suffix table: STRONG-MATCHING, figure 11 of source 001. Assumes nothing.
 -- The page's i runs downward to −1. Here s = m − 1 − i runs upward, from 1 to m, and p = i is written where its entry is read.
-use mathlib.Core.Path.{_≡_, refl, sym, ap, _∙_}
+use mathlib.Core.Path.{_≡_, refl, sym, _∙_}
 use mathlib.Core.Logic.{_⊎_, inl, inr, ⊎-elim}
 use mathlib.Core.Bool.{Bool, true, false, cond}
 use mathlib.Core.List.{List}

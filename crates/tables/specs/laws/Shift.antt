@@ -1,17 +1,16 @@
 -- The shift entry lies from 1 to m, fits, and nothing smaller does; entry 0 is the period. Assumes nothing.
-use mathlib.Core.Path.{_≡_, refl, sym, ap, _∙_}
-use mathlib.Core.Logic.{_⊎_, inl, inr, ⊎-elim}
-use mathlib.Core.Bool.{Bool, true, false, not, _&&_}
+use mathlib.Core.Path.{_≡_}
+use mathlib.Core.Logic.{⊎-elim}
+use mathlib.Core.Bool.{true, false, not}
 use mathlib.Core.List.{List}
-use Prim.Native.Nat.{ℕ, suc, _+_, _-_, _≤_, _<_}
+use Prim.Native.Nat.{ℕ, _+_, _-_, _≤_, _<_}
 use native.Mathlib.Nat.{eq-or-lt-of-le}
 use native.Mathlib.Omega.{arith}
 use borrow.Author.Tests.{ne-eqb, eqb-false, le-leb, lt-leb, not-true}
 use lib.Dec.{eqb}
 use lib.ListN.{length}
 use lib.Seq.{slice}
-use Rattle.basics.specs.Search.{least}
-use Rattle.basics.specs.Lists.{at, same, table}
+use Rattle.basics.specs.Lists.{at, same}
 use Rattle.basics.specs.laws.Tests.{and-true-both, le-or-lt}
 use Rattle.basics.specs.laws.Search.{least-from, least-le, least-passes, least-first, least-ext}
 use Rattle.basics.specs.laws.Lists.{slices-same, slices-agree, length-table, at-table}

@@ -1,14 +1,13 @@
 -- The suffix entry is the greatest k: its bytes agree, and the next differ or do not exist. Assumes nothing.
-use mathlib.Core.Path.{_≡_, refl, sym, ap, _∙_}
-use mathlib.Core.Logic.{_⊎_, inl, inr, ⊎-elim}
-use mathlib.Core.Bool.{Bool, true, false, true≢false}
+use mathlib.Core.Path.{_≡_, sym, _∙_}
+use mathlib.Core.Logic.{_⊎_, inl, ⊎-elim}
+use mathlib.Core.Bool.{true, false, true≢false}
 use mathlib.Core.List.{List}
 use Prim.Native.Nat.{ℕ, suc, _+_, _-_, _≤_, _<_}
 use native.Mathlib.Nat.{eq-or-lt-of-le, le-of-suc-le-suc}
 use native.Mathlib.Omega.{arith}
 use lib.ListN.{length}
-use lib.Seq.{slice}
-use Rattle.basics.specs.Lists.{at, same, table}
+use Rattle.basics.specs.Lists.{at}
 use Rattle.basics.specs.Rooms.{Begins}
 use Rattle.basics.specs.laws.Tests.{is-false}
 use Rattle.basics.specs.laws.Search.{greatest-is, greatest-le, greatest-passes, greatest-above}

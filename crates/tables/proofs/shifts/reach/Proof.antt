@@ -1,7 +1,6 @@
 -- `tables::shifts::reach` meets its contract: the entry read is the suffix entry at m - 1 - s.
 -- Assumes nothing.
 use Prim.Native.Nat.{ℕ, _-_}
-use mathlib.Core.Path.{_≡_, _∙_}
 use native.Mathlib.Omega.{arith}
 use lib.ListN.{length}
 use borrow.Author.Needs.{needs}
@@ -10,8 +9,6 @@ use Rattle.tables.specs.Suffix.{suffixAt}
 use Rattle.tables.specs.laws.Suffix.{suffix-reaches, suffix-entry}
 use Rattle.tables.proofs.shifts.reach.Statement.{statement}
 use Rattle.tables.proofs.shifts.reach.Tie as tie
-use Rattle.tables.proofs.shifts.reach.Reads as reads
-use Rattle.tables.proofs.shifts.reach.Lts as lts
 
 sub-entry : tie.Need-sub-entry
 sub-entry c = search needs

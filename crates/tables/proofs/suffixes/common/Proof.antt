@@ -1,7 +1,7 @@
 -- `tables::suffixes::common` meets its contract. The loop's invariant: the bytes at each distance below k from the two ends agree.
 -- Assumes nothing.
 use borrow.Author.Count.{below-none, below-more}
-use mathlib.Core.Path.{_≡_, sym}
+use mathlib.Core.Path.{sym}
 use mathlib.Core.Logic.{inl, inr}
 use native.Mathlib.Omega.{arith}
 use Prim.Native.Nat.{ℕ, _≤_, _<_, _-_, _+_}
