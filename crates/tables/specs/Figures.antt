@@ -22,35 +22,35 @@ abbrev c : ℕ
 c = 99
 
 -- one entry of an occurrence column
-record Entry : Type 0 where
-  byte : ℕ
-  is : ℕ
+pub record Entry : Type 0 where
+  pub byte : ℕ
+  pub is : ℕ
 
 -- a starred row: the probe, and what the document says of it
-record Row : Type 0 where
-  probe : List ℕ
-  suffix : List ℕ
-  shift : List ℕ
-  listed : List Entry
+pub record Row : Type 0 where
+  pub probe : List ℕ
+  pub suffix : List ℕ
+  pub shift : List ℕ
+  pub listed : List Entry
 
 -- the entry of byte k in an occurrence column: the listed number, or m for the others
-columnAt : List Entry → ℕ → ℕ → ℕ
+unfoldable pub columnAt : List Entry → ℕ → ℕ → ℕ
 columnAt [] m k = m
 columnAt (e ∷ es) m k = let others = columnAt es m k in cond (eqb k (e .byte)) (e .is) others
 
 -- all three tables, the occurrence table with all its 256 entries
-record Tables : Type 0 where
-  suffix : List ℕ
-  shift : List ℕ
-  occurrence : List ℕ
+pub record Tables : Type 0 where
+  pub suffix : List ℕ
+  pub shift : List ℕ
+  pub occurrence : List ℕ
 
-said : Row → Tables
+unfoldable pub said : Row → Tables
 said r = record { suffix = r .suffix; shift = r .shift; occurrence = table 256 (columnAt (r .listed) (length (r .probe))) }
 
-computed : Row → Tables
+unfoldable pub computed : Row → Tables
 computed r = record { suffix = suffixTable (r .probe); shift = shiftTable (r .probe); occurrence = occurrenceTable (r .probe) }
 
-rows : List Row
+unfoldable pub rows : List Row
 rows =
     record { probe = b ∷ []; suffix = 1 ∷ []; shift = 1 ∷ []; listed = record { byte = b; is = 1 } ∷ [] }
     ∷ record {
@@ -79,7 +79,7 @@ rows =
     }
     ∷ []
 
-starred : map computed rows ≡ map said rows
+pub starred : map computed rows ≡ map said rows
 unfolding rows computed said columnAt table same least greatest endsAlike suffixAt suffixTable fitsNear fitsFar fits shiftAt shiftTable standsAt occurrenceAt occurrenceTable
 starred = refl
 

@@ -1,0 +1,130 @@
+-- What the window functions give, said of the passes of the definitions. Assumes nothing.
+use mathlib.Core.Path.{_≡_, refl, sym, ap, subst, _∙_}
+use mathlib.Core.Logic.{_⊎_, inl, inr, ⊎-elim}
+use mathlib.Core.Bool.{Bool, true, false, _&&_, cond, true≢false}
+use mathlib.Core.List.{List, [], _∷_, _++_, map, append-assoc, append-nil}
+use Prim.Native.Nat.{ℕ, zero, suc, _+_, _-_, _*_, _/_, _%_, _≤_, _<_, min, max, zero-le}
+use native.Mathlib.Nat.{sub-zero, zero-add, add-zero, add-suc, suc-add, suc-sub-suc, sub-self, zero-sub, eq-or-lt-of-le, le-of-suc-le-suc}
+use native.Mathlib.Decide.{ℕ-discrete, decLt}
+use native.Mathlib.Omega.{arith}
+use borrow.Author.Tests.{eqb-true, eqb-false, leb-true, leb-false, eq-eqb, ne-eqb, le-leb, lt-leb, lt-ltb, le-ltb, ltb-false}
+use lib.Dec.{eqb, ltb, leb}
+use lib.ListN.{length, getD, take, drop, set, replicate, length-append, length-take, length-drop, length-set, length-replicate, length-map, getD-replicate, drop-of-length-le, List·getD-append}
+use lib.Seq.{slice, take-all, drop-cons, drop-at, set-at, set-out, take-append-le, getD-take, getD-drop, getD-set-same, getD-set-other, drop-set-lt, length-slice, ext-getD}
+use Rattle.basics.specs.Lists.{at, same, table}
+use Rattle.basics.specs.Rooms.{front, roomAfter, Begins}
+use Rattle.basics.specs.laws.Tests.{is-false, and-true-both, bool-case, eqb-case, leb-case, le-or-lt, equal-or-not}
+use Rattle.basics.specs.laws.Lists.{same-refl, same-true, length-table}
+use Rattle.basics.specs.laws.Rooms.{room-kept, drop-front, length-front, begins-front, front-then, front-again}
+use Rattle.tables.specs.Suffix.{suffixAt, suffixTable}
+use Rattle.tables.specs.Shift.{shiftAt, shiftTable}
+use Rattle.tables.specs.Occurrence.{occurrenceAt, occurrenceTable}
+use Rattle.tables.specs.laws.Suffix.{Agree, suffix-is, suffix-le, suffix-agrees, suffix-stops, suffix-entry, suffix-reaches}
+use Rattle.tables.specs.laws.Shift.{Fits, shift-pos, shift-le, shift-first}
+use Rattle.tables.specs.laws.Occurrence.{occurrence-pos, occurrence-le, occurrence-first, at-occurrenceTable}
+use Rattle.scans.specs.declared.Answer.{Answer}
+use Rattle.scans.specs.declared.Tally.{Tally}
+use Rattle.scans.specs.declared.Searched.{Searched}
+use Rattle.scans.specs.declared.windows.Seen.{Seen}
+use Rattle.scans.specs.declared.windows.Passed.{Passed}
+use Rattle.scans.specs.declared.memory.Place.{Place}
+use Rattle.scans.specs.declared.hits.Hits.{Hits}
+use Rattle.scans.specs.declared.loops.Run.{Run}
+use Rattle.scans.specs.Trace.{End, matched, stopped, Pass, more, Window, window, comparisons, found, positions, Visit, visit}
+use Rattle.scans.specs.Move.{move}
+use Rattle.scans.specs.Plain.{plainFrom, plainPass, plainScan, plain}
+use Rattle.scans.specs.Remember.{Rule, compares, skips, matches, stops, rule, memFrom, memPass, remember, after, memScan, remembering}
+use Rattle.scans.specs.Occurrences.{occursAt, occursFrom, occurrences, onStep, multiples, firstOf}
+use Rattle.scans.specs.Refusal.{longest, largest, refusalOf}
+use Rattle.scans.specs.Promise.{answerOf, tallyOf, reported, reportedAfter}
+use Rattle.scans.specs.inside.Stamp.{stampOf, recalled, remembered, placeOf, Stands}
+use Rattle.scans.specs.inside.Window.{leftOf, endOf, seenOf, passedOf, Sizes, Lies, Ahead, Moving, Recalling, Memory, Quiet, Kept}
+use Rattle.scans.specs.inside.Hits.{hitsOf, countedAt, countedBy, notedBy, runOf}
+use Rattle.scans.specs.inside.Search.{refusedBy, searchedOf, answerBy, tallyBy}
+use Rattle.scans.specs.laws.Plain.{plain-same, plain-diff, plain-case, plain-comps, plain-step, plain-done, plain-end}
+use Rattle.scans.specs.laws.Remember.{step-same, step-diff, step-skip, step-match, step-stop, mem-case, mem-fuel, mem-ext, mem-comps, mem-kept, mem-left, mem-step, mem-done, mem-end, remember-at, remember-other, plain-mem}
+
+-- one comparison more
+pub passed-more : (p : Pass) (c : ℕ) → passedOf (more p) c ≡ passedOf p (c + 1)
+passed-more p c = let q : c + suc (p .comps) ≡ c + 1 + p .comps = omega arith in λ k. record { left = leftOf (p .end); kept = p .kept; count = q k }
+
+module _ (x y : List ℕ) (R : ℕ → ℕ) (j : ℕ) where
+  -- n equal bytes from index k on, with nothing remembered: n comparisons
+  pub mem-over : (n k c : ℕ) → ((t : ℕ) → k ≤ t → t < k + n → R (j + t) ≡ 0) → ((t : ℕ) → k ≤ t → t < k + n → at y (j + t) ≡ at x t)
+      → passedOf (memFrom x y R j (k + n) (k + n)) c ≡ passedOf (memFrom x y R j k k) (c + n)
+  mem-over zero k c z e = rw (add-zero k, add-zero c)
+  mem-over (suc n) k c z e =
+      let u : c + 1 + n ≡ c + suc n = omega arith in
+      rw (add-suc k n)
+      (ap (λ (p : Pass). passedOf p c) (step-same x y R j (k + n) (k + n) (z (k + n) (omega arith) (omega arith)) (e (k + n) (omega arith) (omega arith)))
+      ∙ passed-more (memFrom x y R j (k + n) (k + n)) c
+      ∙ mem-over n k (c + 1) (λ t a b. z t a (omega arith)) (λ t a b. e t a (omega arith))
+      ∙ ap (λ (n : ℕ). passedOf (memFrom x y R j k k) n) u)
+
+  module _ (low c : ℕ) (r : Seen) (a : Ahead x y j low c r) (quiet : (t : ℕ) → low ≤ t → R (j + t) ≡ 0) where
+    -- all bytes down to low are equal: the pass goes on from low
+    pub ahead-all : r .left ≤ low → passedOf (memPass x y R j) c ≡ passedOf (memFrom x y R j low low) (r .count)
+    ahead-all h =
+        let n : ℕ = length x - low in
+        let u : low + n ≡ length x = omega (arith, a .from, a .to) in
+        let v : c + n ≡ r .count = omega (arith, a .from, a .to, a .all h) in
+        rw (u, v) at (mem-over n low c (λ t p q. quiet t p) (λ t p q. a .equal t (omega (arith, a .from)) (omega arith)))
+
+    -- two bytes are unequal: the pass stops
+    pub ahead-some : low < r .left → passedOf (memPass x y R j) c ≡ record { left = r .left; kept = length x - r .left; count = r .count }
+    ahead-some h =
+        let n : ℕ = length x - r .left in
+        let i : ℕ = r .left - 1 in
+        let u : r .left + n ≡ length x = omega (arith, a .to) in
+        let s : suc i ≡ r .left = omega arith in
+        let v : c + n + 1 ≡ r .count = omega (arith, a .to, a .some h) in
+        let w : length x - 1 - i ≡ length x - r .left = omega arith in
+        let d : memFrom x y R j (suc i) (suc i) ≡ record { end = stopped i; comps = 1; kept = length x - 1 - i } = step-diff x y R j i i (quiet i (omega arith)) (a .stops h) in
+        rw u at (mem-over n (r .left) c (λ t p q. quiet t (omega arith)) (λ t p q. a .equal t p (omega arith)))
+        ∙ ap (λ (p : Pass). passedOf p (c + n)) (rw s at d)
+        ∙ (λ k. record { left = s k; kept = w k; count = v k })
+
+abbrev seen : Passed → Seen
+seen p = record { left = p .left; count = p .count }
+
+pub plain-ahead : (x y : List ℕ) (j c : ℕ) (r : Seen) → Ahead x y j 0 c r → r ≡ seenOf (plainPass x y j) c
+unfolding memFrom
+plain-ahead x y j c r a = go (r .left) refl ∙ ap (λ (p : Pass). seenOf p c) (sym (plain-mem x y j (length x)))
+  where
+    go : (l : ℕ) → r .left ≡ l → r ≡ seenOf (memPass x y (λ e. 0) j) c
+    go zero e =
+        let q : r .count ≡ r .count + 0 = omega arith in
+        (λ k. record { left = e k; count = q k }) ∙ sym (ap seen (ahead-all x y (λ e. 0) j 0 c r a (λ t p. refl) (omega arith)))
+    go (suc l) e = sym (ap seen (ahead-some x y (λ e. 0) j 0 c r a (λ t p. refl) (omega arith)))
+
+-- one step of the remembering pass: k bytes are left to look at after c comparisons
+module _ (x y : List ℕ) (R : ℕ → ℕ) (j k i c : ℕ) (e : k ≡ suc i) where
+  pub below-same : R (j + i) ≡ 0 → at y (j + i) ≡ at x i → passedOf (memFrom x y R j k k) c ≡ passedOf (memFrom x y R j i i) (c + 1)
+  below-same z q = rw e (ap (λ (p : Pass). passedOf p c) (step-same x y R j i i z q) ∙ passed-more (memFrom x y R j i i) c)
+
+  pub below-diff : R (j + i) ≡ 0 → (at y (j + i) ≡ at x i → ⊥) → passedOf (memFrom x y R j k k) c ≡ record { left = k; kept = length x - k; count = c + 1 }
+  below-diff z n =
+      let w : length x - 1 - i ≡ length x - suc i = omega arith in
+      rw e (ap (λ (p : Pass). passedOf p c) (step-diff x y R j i i z n) ∙ (λ t. record { left = suc i; kept = w t; count = c + 1 }))
+
+  pub below-skip : (r : ℕ) → R (j + i) ≡ r → 0 < r → r ≤ suffixAt x i → passedOf (memFrom x y R j k k) c ≡ passedOf (memFrom x y R j (k - r) (k - r)) c
+  below-skip r q p l =
+      rw (e, ← q)
+      (ap (λ (p : Pass). passedOf p c)
+      (step-skip x y R j i i (omega arith) (omega arith) ∙ mem-fuel x y R j i (suc i - R (j + i)) (suc i - R (j + i)) (omega arith) (omega arith)))
+
+  pub below-match : suffixAt x i < R (j + i) → suffixAt x i ≡ k → passedOf (memFrom x y R j k k) c ≡ record { left = 0; kept = length x; count = c }
+  below-match l s =
+      let w : c + 0 ≡ c = omega arith in
+      rw e (ap (λ (p : Pass). passedOf p c) (step-match x y R j i i l (omega arith)) ∙ (λ t. record { left = 0; kept = length x; count = w t }))
+
+  pub below-stop : suffixAt x i < R (j + i) → suffixAt x i ≤ i → passedOf (memFrom x y R j k k) c ≡ record { left = k - suffixAt x i; kept = length x - k; count = c }
+  below-stop l n =
+      let w : c + 0 ≡ c = omega arith in
+      let u : suc (i - suffixAt x i) ≡ suc i - suffixAt x i = omega arith in
+      let v : length x - 1 - i ≡ length x - suc i = omega arith in
+      rw e (ap (λ (p : Pass). passedOf p c) (step-stop x y R j i i l (omega arith)) ∙ (λ t. record { left = u t; kept = v t; count = w t }))
+
+pub below-none : (x y : List ℕ) (R : ℕ → ℕ) (j k c : ℕ) → k ≡ 0 → passedOf (memFrom x y R j k k) c ≡ record { left = 0; kept = length x; count = c }
+unfolding memFrom
+below-none x y R j k c e = let w : c + 0 ≡ c = omega arith in rw e (λ t. record { left = 0; kept = length x; count = w t })
