@@ -13,6 +13,6 @@ pub mod Occurrences
 -- THE CODE'S LOOPS: what they keep while they run.
 pub mod Hits
 pub mod Going
-pub mod Passes
 pub mod Stamps
+pub mod Passes
 pub mod Loops

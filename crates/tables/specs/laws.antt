@@ -11,3 +11,5 @@ pub mod Refusal
 pub mod Figure11
 -- the occurrence table, byte after byte
 pub mod Seen
+-- what the calls give where no cause refuses them
+pub mod Promise

@@ -97,6 +97,26 @@ counted-more d j ps = go (onStep d j) (multiples d ps) (multiples-more d j ps)
         let n : length ms + 0 ≡ length (multiples d (ps ++ (j ∷ []))) = add-zero (length ms) ∙ ap length q in
         λ k. record { all = all k; number = n k; first = ap firstOf q k }
 
+-- the three cases of one place more, as the code takes them
+module _ (d j : ℕ) (h : Hits) where
+  pub counted-off : onStep d j ≡ false → record { all = h .all + 1; number = h .number; first = h .first } ≡ countedAt d j h
+  counted-off e = let n : h .number ≡ h .number + 0 = omega arith in rw e (λ k. record { all = h .all + 1; number = n k; first = h .first })
+
+  pub counted-first : onStep d j ≡ true → h .number ≡ 0 → record { all = h .all + 1; number = 1; first = j } ≡ countedAt d j h
+  counted-first e z = rw (e, z)
+
+  pub counted-later : onStep d j ≡ true → (h .number ≡ 0 → ⊥) → record { all = h .all + 1; number = h .number + 1; first = h .first } ≡ countedAt d j h
+  counted-later e n = rw (e, ne-eqb (h .number) 0 n)
+
+-- the two cases of a window's end, told by a number
+pub note-stopped : (d j left : ℕ) (h : Hits) (room : List ℕ) → (left ≡ 0 → ⊥) → (h ≡ countedBy d j (endOf left) h) × (room ≡ notedBy j (endOf left) (h .all) room)
+note-stopped d j zero h room n = absurd (n refl)
+note-stopped d j (suc i) h room n = (refl, refl)
+
+pub note-matched : (d j left : ℕ) (h : Hits) (room : List ℕ) → left ≡ 0
+    → (countedAt d j h ≡ countedBy d j (endOf left) h) × (set room (h .all) j ≡ notedBy j (endOf left) (h .all) room)
+note-matched d j left h room e = rw e (refl, refl)
+
 pub multiples-le : (d : ℕ) (ps : List ℕ) → length (multiples d ps) ≤ length ps
 unfolding multiples
 multiples-le d [] = zero-le

@@ -42,6 +42,7 @@ use Rattle.scans.specs.inside.Window.{leftOf, endOf, seenOf, passedOf, S
 use Rattle.scans.specs.inside.Hits.{hitsOf, countedAt, countedBy, notedBy, runOf}
 use Rattle.scans.specs.inside.Search.{refusedBy, searchedOf, answerBy, tallyBy}
 use Rattle.scans.specs.laws.Plain.{plain-same, plain-diff, plain-case, plain-comps, plain-step, plain-done, plain-end}
+use Rattle.scans.specs.laws.Stamps.{place-at}
 use Rattle.scans.specs.laws.Remember.{step-same, step-diff, step-skip, step-match, step-stop, mem-case, mem-fuel, mem-ext, mem-comps, mem-kept, mem-left, mem-step, mem-done, mem-end, remember-at, remember-other, plain-mem}
 
 -- one comparison more
@@ -97,34 +98,62 @@ plain-ahead x y j c r a = go (r .left) refl ∙ ap (λ (p : Pass). seenOf p c) (
         (λ k. record { left = e k; count = q k }) ∙ sym (ap seen (ahead-all x y (λ e. 0) j 0 c r a (λ t p. refl) (omega arith)))
     go (suc l) e = sym (ap seen (ahead-some x y (λ e. 0) j 0 c r a (λ t p. refl) (omega arith)))
 
--- one step of the remembering pass: k bytes are left to look at after c comparisons
-module _ (x y : List ℕ) (R : ℕ → ℕ) (j k i c : ℕ) (e : k ≡ suc i) where
-  pub below-same : R (j + i) ≡ 0 → at y (j + i) ≡ at x i → passedOf (memFrom x y R j k k) c ≡ passedOf (memFrom x y R j i i) (c + 1)
-  below-same z q = rw e (ap (λ (p : Pass). passedOf p c) (step-same x y R j i i z q) ∙ passed-more (memFrom x y R j i i) c)
+below-entry : (k i s a : ℕ) → k ≡ suc i → s ≡ a → s ≤ i → k - s ≡ suc (i - a)
+below-entry k i s a e q l = omega arith
 
-  pub below-diff : R (j + i) ≡ 0 → (at y (j + i) ≡ at x i → ⊥) → passedOf (memFrom x y R j k k) c ≡ record { left = k; kept = length x - k; count = c + 1 }
-  below-diff z n =
-      let w : length x - 1 - i ≡ length x - suc i = omega arith in
-      rw e (ap (λ (p : Pass). passedOf p c) (step-diff x y R j i i z n) ∙ (λ t. record { left = suc i; kept = w t; count = c + 1 }))
+below-last : (m k i : ℕ) → k ≡ suc i → m - k ≡ m - 1 - i
+below-last m k i e = omega arith
 
-  pub below-skip : (r : ℕ) → R (j + i) ≡ r → 0 < r → r ≤ suffixAt x i → passedOf (memFrom x y R j k k) c ≡ passedOf (memFrom x y R j (k - r) (k - r)) c
-  below-skip r q p l =
-      rw (e, ← q)
-      (ap (λ (p : Pass). passedOf p c)
-      (step-skip x y R j i i (omega arith) (omega arith) ∙ mem-fuel x y R j i (suc i - R (j + i)) (suc i - R (j + i)) (omega arith) (omega arith)))
+-- ONE STEP of the remembering pass, as the code takes it: k = i + 1 bytes are left to look at after c comparisons. The place of index i is p, and r is
+-- the length remembered there. Each law gives what is left of the pass.
+module _ (x y mem : List ℕ) (j k i c : ℕ) (e : k ≡ suc i) {p : Place} {r : ℕ} (here : Stands (length x) (j + i) p) (told : r ≡ recalled mem (length x) (p .at)) where
+  abbrev R : ℕ → ℕ
+  R = recalled mem (length x)
 
-  pub below-match : suffixAt x i < R (j + i) → suffixAt x i ≡ k → passedOf (memFrom x y R j k k) c ≡ record { left = 0; kept = length x; count = c }
-  below-match l s =
-      let w : c + 0 ≡ c = omega arith in
-      rw e (ap (λ (p : Pass). passedOf p c) (step-match x y R j i i l (omega arith)) ∙ (λ t. record { left = 0; kept = length x; count = w t }))
+  by-step : {w : Pass} → memFrom x y R j (suc i) (suc i) ≡ w → passedOf w c ≡ passedOf (memFrom x y R j k k) c
+  by-step q = rw e (ap (λ (w : Pass). passedOf w c) (sym q))
 
-  pub below-stop : suffixAt x i < R (j + i) → suffixAt x i ≤ i → passedOf (memFrom x y R j k k) c ≡ record { left = k - suffixAt x i; kept = length x - k; count = c }
-  below-stop l n =
-      let w : c + 0 ≡ c = omega arith in
-      let u : suc (i - suffixAt x i) ≡ suc i - suffixAt x i = omega arith in
-      let v : length x - 1 - i ≡ length x - suc i = omega arith in
-      rw e (ap (λ (p : Pass). passedOf p c) (step-stop x y R j i i l (omega arith)) ∙ (λ t. record { left = u t; kept = v t; count = w t }))
+  length-told : R (j + i) ≡ r
+  length-told = sym (told ∙ ap R (place-at here))
 
-pub below-none : (x y : List ℕ) (R : ℕ → ℕ) (j k c : ℕ) → k ≡ 0 → passedOf (memFrom x y R j k k) c ≡ record { left = 0; kept = length x; count = c }
+  module _ (z : r ≡ 0) {c′ : ℕ} (one : c′ ≡ c + 1) where
+    pub rule-equal : at y (p .at) ≡ at x i → passedOf (memFrom x y R j i i) c′ ≡ passedOf (memFrom x y R j k k) c
+    rule-equal q =
+        rw one (sym (passed-more (memFrom x y R j i i) c))
+        ∙ by-step (step-same x y R j i i (length-told ∙ z) (ap (at y) (sym (place-at here)) ∙ q))
+
+    pub rule-unequal : (at y (p .at) ≡ at x i → ⊥) → record { left = k; kept = length x - k; count = c′ } ≡ passedOf (memFrom x y R j k k) c
+    rule-unequal n =
+        let w : length x - k ≡ length x - 1 - i = omega arith in
+        (λ t. record { left = e t; kept = w t; count = one t })
+        ∙ by-step (step-diff x y R j i i (length-told ∙ z) (λ q. n (ap (at y) (place-at here) ∙ q)))
+
+  module _ {s : ℕ} (entry : s ≡ suffixAt x i) where
+    pub rule-skips : (r ≡ 0 → ⊥) → r ≤ s → passedOf (memFrom x y R j (k - r) (k - r)) c ≡ passedOf (memFrom x y R j k k) c
+    rule-skips n l =
+        let q : k - r ≡ suc i - R (j + i) = omega (arith, length-told) in
+        rw q
+        (ap (λ (w : Pass). passedOf w c) (mem-fuel x y R j (suc i - R (j + i)) i (suc i - R (j + i)) (omega arith) (omega (arith, length-told)))
+        ∙ by-step (step-skip x y R j i i (omega (arith, length-told)) (omega (arith, length-told))))
+
+    above : s < r → suffixAt x i < R (j + i)
+    above l = omega (arith, length-told)
+
+    not-all : (s ≡ k → ⊥) → suffixAt x i ≡ i + 1 → ⊥
+    not-all n q = n (omega arith)
+
+    pub rule-matches : s < r → s ≡ k → record { left = 0; kept = length x; count = c } ≡ passedOf (memFrom x y R j k k) c
+    rule-matches l q =
+        let w : c ≡ c + 0 = omega arith in
+        (λ t. record { left = 0; kept = length x; count = w t }) ∙ by-step (step-match x y R j i i (above l) (omega arith))
+
+    pub rule-stops : s < r → (s ≡ k → ⊥) → s ≤ k → record { left = k - s; kept = length x - k; count = c } ≡ passedOf (memFrom x y R j k k) c
+    rule-stops l n u =
+        let v : k - s ≡ suc (i - suffixAt x i) = below-entry k i s (suffixAt x i) e entry (omega arith) in
+        let q : length x - k ≡ length x - 1 - i = below-last (length x) k i e in
+        (λ t. record { left = v t; kept = q t; count = sym (add-zero c) t }) ∙ by-step (step-stop x y R j i i (above l) (not-all n))
+
+-- nothing is left to look at
+pub pass-none : (x y : List ℕ) (R : ℕ → ℕ) (j k c : ℕ) → k ≡ 0 → record { left = 0; kept = length x; count = c } ≡ passedOf (memFrom x y R j k k) c
 unfolding memFrom
-below-none x y R j k c e = let w : c + 0 ≡ c = omega arith in rw e (λ t. record { left = 0; kept = length x; count = w t })
+pass-none x y R j k c e = let w : c ≡ c + 0 = omega arith in rw e (λ t. record { left = 0; kept = length x; count = w t })
