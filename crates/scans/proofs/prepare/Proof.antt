@@ -1,6 +1,6 @@
 -- `scans::prepare` meets its contract: where no cause holds, the calls of `tables` refuse nothing either.
 -- Assumes nothing.
-use mathlib.Core.Path.{_≡_, sym, ap, _∙_}
+use mathlib.Core.Path.{sym, ap, _∙_}
 use native.Mathlib.Omega.{arith}
 use lib.ListN.{length}
 use borrow.Author.Needs.{needs}

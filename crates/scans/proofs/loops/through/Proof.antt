@@ -1,72 +1,108 @@
+-- `scans::loops::through` meets its contract. The loop's invariant, `MemLoop`: the windows done and those to come are the remembering scan, the memory room
+-- says what the scan remembers, and what is done is noted and counted.
+-- Assumes nothing.
+use Prim.Native.Nat.{_+_, _-_}
+use mathlib.Core.List.{[], _++_}
+use native.Mathlib.Omega.{arith}
+use lib.ListN.{length}
+use Rattle.basics.specs.Lists.{at}
+use Rattle.scans.specs.Trace.{found}
+use Rattle.scans.specs.inside.Window.{endOf}
+use Rattle.scans.specs.laws.Remember.{mem-end}
+use Rattle.scans.specs.laws.Hits.{noted-none, noted-more, noted-length, noted-all}
+use Rattle.scans.specs.laws.Going.{going-run, going-room}
+use Rattle.scans.specs.laws.Stamps.{place-at}
+use Rattle.scans.specs.laws.Loops.{MemLoop, mem-first, mem-next, mem-quiet}
 use Rattle.scans.proofs.loops.through.Statement.{statement}
 use Rattle.scans.proofs.loops.through.Tie as tie
-use Rattle.scans.proofs.loops.through.Reads as reads
-use Rattle.scans.proofs.loops.through.Lts as lts
-use Rattle.scans.proofs.hits.note.Reads as note-reads
-use Rattle.scans.proofs.memory.keep.Reads as keep-reads
-use Rattle.scans.proofs.memory.on.Reads as on-reads
-use Rattle.scans.proofs.moves.by.Reads as by-reads
-use Rattle.scans.proofs.windows.remembering.Reads as remembering-reads
 
 abbrev Inv-loop : tie.InvT-loop
 Inv-loop x y suffix shift occ mem₀ room₀ step m p₀ top₀ hits₀ visited₀ count₀ mem room p top hits visited count =
-    ?
+    MemLoop x y room₀ room mem₀ mem step p top hits visited count
 
 abbrev μ-loop : tie.MeasureT-loop
 μ-loop x y suffix shift occ mem₀ room₀ step m p₀ top₀ hits₀ visited₀ count₀ mem room p top hits visited count =
-    ?
+    length y + length x - p .at
 
--- src/loops.rt:119:5
 loop-holds : tie.Need-loop-holds Inv-loop μ-loop
-loop-holds c = ?
+loop-holds c =
+    let s = c .before .before .before .before .before .before in
+    let a = s .args in
+    record {
+      ps = [];
+      at = mem-first (a .x .now) (a .y .now) (a .mem .now) (s .pre .0) (a .mem .now) (s .pre .1 .1 .1);
+      noted = noted-none (a .step) (a .room .now);
+    }
 
--- src/loops.rt:119:11
 add-if1 : tie.Need-add-if1 Inv-loop μ-loop
-add-if1 c = ?
+add-if1 c = omega arith
 
--- src/loops.rt:121:13
 remembering-requires : tie.Need-remembering-requires Inv-loop μ-loop
-remembering-requires c κs = ?
+remembering-requires c κs =
+    let s = c .before .before .before .before .before .before .before .before .before .before in
+    let l = c .before .before .before .loop in
+    let t = s .pre .1 .1 .0 in (
+      record { sizes = s .pre .0; within = omega arith },
+      (
+        record { begins = t .begins; memory = omega (arith, t .memory, l .inv .at .room) },
+        (l .inv .at .place, (mem-quiet (l .inv .at .memory) (l .inv .at .under), omega arith)),
+      ),
+    )
 
--- src/loops.rt:124:9
 add-visited : tie.Need-add-visited Inv-loop μ-loop
-add-visited c = ?
+add-visited c = omega arith
 
--- src/loops.rt:125:9
 note-requires : tie.Need-note-requires Inv-loop μ-loop
-note-requires c κs = ?
+note-requires c κs = let l = c .before .before .before .before .before .loop in omega (arith, noted-all (l .inv .noted))
 
--- src/loops.rt:126:9
 keep-requires : tie.Need-keep-requires Inv-loop μ-loop
-keep-requires c κs = ?
+keep-requires c κs =
+    let s = c .before .before .before .before .before .before .before .before .before .before .before .before .before .before .before .before in
+    let l = c .before .before .before .before .before .before .before .before .before .loop in
+    let w = c .before .before .before .before .before .remembering .ensures .1 in
+    (omega (arith, w, l .inv .at .room, l .inv .at .under, s .pre .0 .some, s .pre .0 .short, s .pre .0 .small, s .pre .1 .1 .0 .memory), l .inv .at .place)
 
--- src/loops.rt:127:13
 by-requires : tie.Need-by-requires Inv-loop μ-loop
-by-requires c κs = ?
+by-requires c κs =
+    let s = c .before .before .before .before .before .before .before .before .before .before .before .before .before .before .before .before .before .before .before in
+    (record { sizes = s .pre .0; within = omega arith }, (s .pre .1 .0, c .before .before .before .before .before .before .before .before .remembering .ensures .1 .0))
 
--- src/loops.rt:128:9
 on-requires : tie.Need-on-requires Inv-loop μ-loop
-on-requires c κs = ?
+on-requires c κs =
+    let s = c .before .before .before .before .before .before .before .before .before .before .before .before .before .before .before .before .before .before .before .before in
+    let l = c .before .before .before .before .before .before .before .before .before .before .before .before .before .loop in
+    (omega (arith, c .by .ensures .1, l .inv .at .counted .place, s .pre .0 .some, s .pre .0 .short, s .pre .0 .small), l .inv .at .place)
 
--- src/loops.rt:119:5
 loop-less : tie.Need-loop-less Inv-loop μ-loop
-loop-less c = ?
+loop-less c = omega (arith, c .before .by .ensures .1, place-at (c .on .ensures), c .before .before .before .before .before .before .before .before .before .before .before .before .before .before .loop .inv .at .counted .place)
 
--- src/loops.rt:119:5
 loop-again : tie.Need-loop-again Inv-loop μ-loop
-loop-again c = ?
+loop-again c =
+    let s = c .before .before .before .before .before .before .before .before .before .before .before .before .before .before .before .before .before .before .before .before .before in
+    let l = c .before .before .before .before .before .before .before .before .before .before .before .before .before .before .loop in
+    let n = c .before .before .before .before .before .before .before .before .note in
+    let k = c .before .before .before .before .keep in
+    let w = c .before .before .before .before .before .before .before .before .before .before .remembering in
+    let e = endOf (w .result .left) in
+    record {
+      ps = l .inv .ps ++ found (l .p .at) e [];
+      at = mem-next (s .pre .0) (l .inv .at) (c .before .before .before .before .before .before .before .before .before .before .before .before .if1 .taken) (w .ensures .0) (c .before .by .ensures .0) (k .ensures) (k .kept .0) (c .on .ensures);
+      noted = noted-more (l .p .at) e (l .inv .noted) (n .ensures .0) (n .ensures .1);
+    }
 
--- src/loops.rt:87:1
 same-length : tie.Need-same-length Inv-loop μ-loop
-same-length c = ?
+same-length c = c .before .before .loop .inv .at .room
 
--- src/loops.rt:87:1
 same-length-2 : tie.Need-same-length-2 Inv-loop μ-loop
-same-length-2 c = ?
+same-length-2 c = noted-length (c .before .before .loop .inv .noted)
 
--- src/loops.rt:87:1
 returns : tie.Need-returns Inv-loop μ-loop
-returns c = ?
+returns c =
+    let a = c .before .before .before .before .before .before .before .before .before .args in
+    let l = c .before .before .loop in
+    let e = mem-end (a .x .now) (a .y .now) (l .inv .at .R) (l .inv .at .fuel) (l .p .at) (omega arith) in
+    let g = l .inv .at .going in
+    (going-run g e (l .inv .noted), (going-room g e (l .inv .noted), l .inv .at .rest))
 
 pub through-spec : {M : Type 1} → statement M
 through-spec =

@@ -1,17 +1,21 @@
+-- `scans::windows::plainly` meets its contract: the plain pass is the remembering one with nothing remembered.
+-- Assumes nothing.
 use borrow.Author.Needs.{needs}
+use Rattle.scans.specs.laws.Passes.{plain-ahead}
 use Rattle.scans.proofs.windows.plainly.Statement.{statement}
 use Rattle.scans.proofs.windows.plainly.Tie as tie
-use Rattle.scans.proofs.windows.plainly.Reads as reads
-use Rattle.scans.proofs.windows.plainly.Lts as lts
-use Rattle.scans.proofs.windows.ahead.Reads as ahead-reads
 
--- src/windows.rt:76:5
 ahead-requires : tie.Need-ahead-requires
 ahead-requires c κs = search needs
 
--- src/windows.rt:70:1
 returns : tie.Need-returns
-returns c = ?
+returns c =
+    let a = c .before .before .before .args in
+    (plain-ahead (a .x .now) (a .y .now) (a .j) (a .count) (c .ahead .result) (c .ahead .ensures), c .ahead .ensures .to)
 
 pub plainly-spec : {M : Type 1} → statement M
-plainly-spec = tie.close (tie.spec ahead-requires returns)
+plainly-spec =
+    tie.close
+    (tie.spec
+    ahead-requires
+    returns)
