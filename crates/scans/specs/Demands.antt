@@ -10,7 +10,7 @@ use Rattle.scans.specs.Plain.{plain}
 use Rattle.scans.specs.Remember.{remembering}
 use Rattle.scans.specs.Occurrences.{occurrences}
 use Rattle.scans.specs.Refusal.{refusalOf}
-use Rattle.scans.specs.Promise.{answerOf, reported, reportedAfter, Plainly, Rememberingly}
+use Rattle.scans.specs.Promise.{answerOf, reported, Plainly, Rememberingly}
 use Rattle.scans.specs.laws.Refusal.{accepted}
 use Rattle.scans.specs.laws.Ending.{Sound}
 use Rattle.scans.specs.laws.Free.{free-le}

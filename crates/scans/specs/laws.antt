@@ -16,3 +16,5 @@ pub mod Going
 pub mod Stamps
 pub mod Passes
 pub mod Loops
+-- from what a search gives to what its call promises
+pub mod Search

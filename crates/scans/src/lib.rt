@@ -94,7 +94,7 @@ pub fn plain(
     let prepared = prepare(probe, stream.len(), smallest, suffix, shift);
     let refusal = prepared.refusal;
     if refusal != 0 {
-        return answer_of(refused(refusal), 0);
+        return answer_of(refused(refusal), positions.len());
     }
     let occ = prepared.occ;
     let run = loops::plainly(probe, stream, shift, &occ, positions);
@@ -147,19 +147,14 @@ fn search(
     ensures { λ r. ⌜ Searching (now (probe .entry)) (now (stream .entry)) (now (suffix .entry)) (now (shift .entry)) (now (memory .entry)) (now (positions .entry)) step r
         (now (suffix .exit)) (now (shift .exit)) (now (memory .exit)) (now (positions .exit)) ⌝ }
 {
-    let smallest = basics::smaller(
-        suffix.len(),
-        basics::smaller(shift.len(), memory.len()),
-    );
+    let smallest = basics::smaller(suffix.len(), basics::smaller(shift.len(), memory.len()));
     let prepared = prepare(probe, stream.len(), smallest, suffix, shift);
     let refusal = prepared.refusal;
     if refusal != 0 {
         return refused(refusal);
     }
     let occ = prepared.occ;
-    let run = loops::remembering(
-        probe, stream, suffix, shift, &occ, memory, positions, step,
-    );
+    let run = loops::remembering(probe, stream, suffix, shift, &occ, memory, positions, step);
     Searched { refusal: 0, run }
 }
 

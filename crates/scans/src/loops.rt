@@ -8,7 +8,6 @@ ghost use Rattle.scans.specs.Remember.{remembering};
 ghost use Rattle.scans.specs.Promise.{reported};
 ghost use Rattle.scans.specs.inside.Window.{Sizes, Moving, Recalling};
 ghost use Rattle.scans.specs.inside.Hits.{runOf};
-
 use crate::hits;
 use crate::hits::Hits;
 use crate::memory;
@@ -24,13 +23,7 @@ pub(crate) struct Run {
 }
 
 // The plain scan, over tables that are ready.
-pub(crate) fn plainly(
-    x: &[u8],
-    y: &[u8],
-    shift: &[u32],
-    occ: &[u32; 256],
-    room: &mut [u32],
-) -> Run
+pub(crate) fn plainly(x: &[u8], y: &[u8], shift: &[u32], occ: &[u32; 256], room: &mut [u32]) -> Run
     requires { ⌜ Sizes (now x) (now y) ⌝ }
     requires { ⌜ Moving (now x) (now shift) (now occ) ⌝ }
     ensures run { λ r. ⌜ r ≡ runOf 0 (plain (now (x .entry)) (now (y .entry))) ⌝ }

@@ -4,7 +4,6 @@
 //
 // Slot and stamp go along with the position: no division is made.
 ghost use mathlib.Core.Path.{_≡_};
-ghost use mathlib.Core.List.{_++_};
 ghost use Prim.Native.Nat.{_+_, _<_, _≤_};
 ghost use lib.ListN.{length, replicate};
 ghost use Rattle.basics.specs.Rooms.{front};

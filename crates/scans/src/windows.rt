@@ -10,7 +10,6 @@ ghost use Rattle.scans.specs.Plain.{plainPass};
 ghost use Rattle.scans.specs.Remember.{memFrom, memPass};
 ghost use Rattle.scans.specs.inside.Stamp.{recalled, Stands};
 ghost use Rattle.scans.specs.inside.Window.{seenOf, passedOf, Lies, Ahead, Recalling, Quiet};
-
 use crate::memory;
 use crate::memory::Place;
 

@@ -1,7 +1,6 @@
 -- `scans::causes` meets its contract: each test is the law of its cause.
 -- Assumes nothing.
 use mathlib.Core.Path.{sym}
-
 use Rattle.scans.specs.laws.Refusal.{refuses-empty, refuses-long, refuses-large, refuses-short, refuses-none}
 use Rattle.scans.proofs.causes.Statement.{statement}
 use Rattle.scans.proofs.causes.Tie as tie

@@ -1,64 +1,79 @@
+-- `scans::search` meets its contract.
+-- Assumes nothing.
+use Prim.Native.Nat.{min}
+use mathlib.Core.Path.{sym, ap, _∙_}
+use native.Mathlib.Omega.{arith}
 use borrow.Author.Needs.{needs}
+use lib.ListN.{length}
+use Rattle.scans.specs.Remember.{remembering}
+use Rattle.basics.specs.laws.Rooms.{room-kept}
+use Rattle.scans.specs.laws.Search.{refused-is, run-is, reported-kept, ready, search-is}
 use Rattle.scans.proofs.search.Statement.{statement}
 use Rattle.scans.proofs.search.Tie as tie
-use Rattle.scans.proofs.search.Reads as reads
-use Rattle.scans.proofs.search.Lts as lts
-use Rattle.basics.proofs.smaller.Reads as smaller-reads
-use Rattle.scans.proofs.loops.remembering.Reads as remembering-reads
-use Rattle.scans.proofs.prepare.Reads as prepare-reads
-use Rattle.scans.proofs.refused.Reads as refused-reads
 
--- src/lib.rt:152:9
 smaller-requires : tie.Need-smaller-requires
 smaller-requires c κs = search needs
 
--- src/lib.rt:150:9
 smaller-requires-2 : tie.Need-smaller-requires-2
 smaller-requires-2 c κs = search needs
 
--- src/lib.rt:154:9
 prepare-requires : tie.Need-prepare-requires
 prepare-requires c κs = search needs
 
--- src/lib.rt:157:9
 refused-requires : tie.Need-refused-requires
 refused-requires c κs = search needs
 
--- src/lib.rt:157:9
 same-length : tie.Need-same-length
 same-length c = search needs
 
--- src/lib.rt:157:9
 same-length-2 : tie.Need-same-length-2
 same-length-2 c = search needs
 
--- src/lib.rt:157:9
 returns : tie.Need-returns
-returns c = ?
+returns c =
+    let if1 = c .before in
+    let prepare = if1 .before .before .before .before .before in
+    let smaller2 = prepare .before .before .before in
+    let a = smaller2 .before .before .before .before .before .before .before .before .args in
+    search-is (smaller2 .smaller2 .ensures ∙ ap (min (length (a .suffix .now))) (smaller2 .before .smaller .ensures)) (prepare .prepare .ensures)
+    (c .refused .ensures ∙ refused-is (prepare .prepare .result .refusal) (a .step) (remembering (a .probe .now) (a .stream .now)) (if1 .if1 .taken))
+    (sym (room-kept _ _ _ (if1 .if1 .taken)))
+    (sym (reported-kept _ _ _ (if1 .if1 .taken)))
 
--- src/lib.rt:160:9
 remembering-requires : tie.Need-remembering-requires
-remembering-requires c κs = ?
+remembering-requires c κs =
+    let if1 = c .before .before .before .before .before .before in
+    let prepare = if1 .before .before .before .before .before in
+    let smaller2 = prepare .before .before .before in
+    let a = smaller2 .before .before .before .before .before .before .before .before .args in
+    let e = smaller2 .smaller2 .ensures in
+    let e₂ = smaller2 .before .smaller .ensures in
+    let t = ready (a .stream .now) (prepare .prepare .ensures) (if1 .if1 .left) (omega (arith, e)) (omega (arith, e, e₂)) in
+    (t .0 .sizes, (t .0 .moving, record { begins = t .0 .suffix; memory = omega (arith, t .1, e, e₂) }))
 
--- src/lib.rt:138:1
 same-length-3 : tie.Need-same-length-3
 same-length-3 c = search needs
 
--- src/lib.rt:138:1
 same-length-4 : tie.Need-same-length-4
 same-length-4 c = search needs
 
--- src/lib.rt:138:1
 same-length-5 : tie.Need-same-length-5
 same-length-5 c = search needs
 
--- src/lib.rt:138:1
 same-length-6 : tie.Need-same-length-6
 same-length-6 c = search needs
 
--- src/lib.rt:138:1
 returns-2 : tie.Need-returns-2
-returns-2 c = ?
+returns-2 c =
+    let run = c .before .before .before .before in
+    let if1 = run .before .before .before .before .before .before .before in
+    let prepare = if1 .before .before .before .before .before in
+    let smaller2 = prepare .before .before .before in
+    let a = smaller2 .before .before .before .before .before .before .before .before .args in
+    search-is (smaller2 .smaller2 .ensures ∙ ap (min (length (a .suffix .now))) (smaller2 .before .smaller .ensures)) (prepare .prepare .ensures)
+    (run-is (prepare .prepare .result .refusal) (a .step) (remembering (a .probe .now) (a .stream .now)) (if1 .if1 .left) (run .remembering .ensures .0))
+    (rw (if1 .if1 .left) (run .remembering .ensures .1 .1))
+    (rw (if1 .if1 .left) (run .remembering .ensures .1 .0))
 
 pub search-spec : {M : Type 1} → statement M
 search-spec =

@@ -1,8 +1,7 @@
 -- What is counted of the occurrences while a scan runs, and what a whole run gives. Assumes nothing.
-use mathlib.Core.Path.{_≡_}
 use mathlib.Core.Bool.{cond, _&&_}
-use mathlib.Core.List.{List, []}
-use Prim.Native.Nat.{ℕ, zero, suc, _+_}
+use mathlib.Core.List.{List}
+use Prim.Native.Nat.{ℕ, _+_}
 use lib.Dec.{eqb}
 use lib.ListN.{length, set}
 use Rattle.scans.specs.declared.hits.Hits.{Hits}

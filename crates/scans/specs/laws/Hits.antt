@@ -1,46 +1,22 @@
 -- The position room and the counts while a scan runs. Assumes nothing.
-use mathlib.Core.Path.{_≡_, refl, sym, ap, subst, _∙_}
-use mathlib.Core.Logic.{_⊎_, inl, inr, ⊎-elim}
-use mathlib.Core.Bool.{Bool, true, false, _&&_, cond, true≢false}
-use mathlib.Core.List.{List, [], _∷_, _++_, map, append-assoc, append-nil}
-use Prim.Native.Nat.{ℕ, zero, suc, _+_, _-_, _*_, _/_, _%_, _≤_, _<_, min, max, zero-le}
-use native.Mathlib.Nat.{sub-zero, zero-add, add-zero, add-suc, suc-add, suc-sub-suc, sub-self, zero-sub, eq-or-lt-of-le, le-of-suc-le-suc}
-use native.Mathlib.Decide.{ℕ-discrete, decLt}
+use mathlib.Core.Path.{_≡_, refl, sym, ap, _∙_}
+use mathlib.Core.Bool.{Bool, true, false, _&&_, cond}
+use mathlib.Core.List.{List, [], _∷_, _++_, append-assoc, append-nil}
+use Prim.Native.Nat.{ℕ, zero, suc, _+_, _≤_, _<_, zero-le}
+use native.Mathlib.Nat.{add-zero}
+use native.Mathlib.Decide.{decLt}
 use native.Mathlib.Omega.{arith}
-use borrow.Author.Tests.{eqb-true, eqb-false, leb-true, leb-false, eq-eqb, ne-eqb, le-leb, lt-leb, lt-ltb, le-ltb, ltb-false}
-use lib.Dec.{eqb, ltb, leb}
-use lib.ListN.{length, getD, take, drop, set, replicate, length-append, length-take, length-drop, length-set, length-replicate, length-map, getD-replicate, drop-of-length-le, List·getD-append}
-use lib.Seq.{slice, take-all, drop-cons, drop-at, set-at, set-out, take-append-le, getD-take, getD-drop, getD-set-same, getD-set-other, drop-set-lt, length-slice, ext-getD}
-use Rattle.basics.specs.Lists.{at, same, table}
-use Rattle.basics.specs.Rooms.{front, roomAfter, Begins}
-use Rattle.basics.specs.laws.Tests.{is-false, and-true-both, bool-case, eqb-case, leb-case, le-or-lt, equal-or-not}
-use Rattle.basics.specs.laws.Lists.{same-refl, same-true, length-table}
-use Rattle.basics.specs.laws.Rooms.{room-kept, drop-front, length-front, begins-front, front-then, front-again}
-use Rattle.tables.specs.Suffix.{suffixAt, suffixTable}
-use Rattle.tables.specs.Shift.{shiftAt, shiftTable}
-use Rattle.tables.specs.Occurrence.{occurrenceAt, occurrenceTable}
-use Rattle.tables.specs.laws.Suffix.{Agree, suffix-is, suffix-le, suffix-agrees, suffix-stops, suffix-entry, suffix-reaches}
-use Rattle.tables.specs.laws.Shift.{Fits, shift-pos, shift-le, shift-first}
-use Rattle.tables.specs.laws.Occurrence.{occurrence-pos, occurrence-le, occurrence-first, at-occurrenceTable}
-use Rattle.scans.specs.declared.Answer.{Answer}
-use Rattle.scans.specs.declared.Tally.{Tally}
-use Rattle.scans.specs.declared.Searched.{Searched}
-use Rattle.scans.specs.declared.windows.Seen.{Seen}
-use Rattle.scans.specs.declared.windows.Passed.{Passed}
-use Rattle.scans.specs.declared.memory.Place.{Place}
+use borrow.Author.Tests.{ne-eqb}
+use lib.Dec.{eqb}
+use lib.ListN.{length, getD, take, drop, set, length-append, length-take, length-drop, drop-of-length-le}
+use lib.Seq.{take-all, drop-cons, set-at, set-out, take-append-le}
+use Rattle.basics.specs.laws.Tests.{bool-case}
 use Rattle.scans.specs.declared.hits.Hits.{Hits}
-use Rattle.scans.specs.declared.loops.Run.{Run}
-use Rattle.scans.specs.Trace.{End, matched, stopped, Pass, more, Window, window, comparisons, found, positions, Visit, visit}
-use Rattle.scans.specs.Move.{move}
-use Rattle.scans.specs.Plain.{plainFrom, plainPass, plainScan, plain}
-use Rattle.scans.specs.Remember.{Rule, compares, skips, matches, stops, rule, memFrom, memPass, remember, after, memScan, remembering}
-use Rattle.scans.specs.Occurrences.{occursAt, occursFrom, occurrences, onStep, multiples, firstOf}
-use Rattle.scans.specs.Refusal.{longest, largest, refusalOf}
-use Rattle.scans.specs.Promise.{answerOf, tallyOf, reported, reportedAfter}
-use Rattle.scans.specs.inside.Stamp.{stampOf, recalled, remembered, placeOf, Stands}
-use Rattle.scans.specs.inside.Window.{leftOf, endOf, seenOf, passedOf, Sizes, Lies, Ahead, Moving, Recalling, Memory, Quiet, Kept}
-use Rattle.scans.specs.inside.Hits.{hitsOf, countedAt, countedBy, notedBy, runOf}
-use Rattle.scans.specs.inside.Search.{refusedBy, searchedOf, answerBy, tallyBy}
+use Rattle.scans.specs.Trace.{End, matched, stopped, found}
+use Rattle.scans.specs.Occurrences.{onStep, multiples, firstOf}
+use Rattle.scans.specs.Promise.{reported}
+use Rattle.scans.specs.inside.Window.{endOf}
+use Rattle.scans.specs.inside.Hits.{hitsOf, countedAt, countedBy, notedBy}
 
 -- the position room with one position more
 pub reported-length : (ps d : List ℕ) → length (reported ps d) ≡ length d
@@ -73,7 +49,7 @@ multiples-more d j [] = bool-case (onStep d j) (λ t. elim t [ true ↦ j ∷ []
 multiples-more d j (k ∷ ps) =
     bool-case (onStep d k)
     (λ t. elim t [ true ↦ k ∷ multiples d (ps ++ (j ∷ [])) | false ↦ multiples d (ps ++ (j ∷ [])) ]
-        ≡ elim t [ true ↦ k ∷ multiples d ps | false ↦ multiples d ps ] ++ cond (onStep d j) (j ∷ []) [])
+    ≡ elim t [ true ↦ k ∷ multiples d ps | false ↦ multiples d ps ] ++ cond (onStep d j) (j ∷ []) [])
     (λ e. ap (λ (l : List ℕ). k ∷ l) (multiples-more d j ps))
     (λ e. multiples-more d j ps)
 

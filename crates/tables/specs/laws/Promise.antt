@@ -4,7 +4,7 @@ use mathlib.Core.List.{List}
 use Prim.Native.Nat.{ℕ, min, _≤_}
 use native.Mathlib.Omega.{arith}
 use lib.ListN.{length}
-use Rattle.basics.specs.Rooms.{front, roomAfter}
+use Rattle.basics.specs.Rooms.{front}
 use Rattle.tables.specs.declared.Occurrences.{Occurrences}
 use Rattle.tables.specs.Suffix.{suffixTable}
 use Rattle.tables.specs.Shift.{shiftTable}

@@ -6,7 +6,6 @@ use native.Mathlib.Omega.{arith}
 use borrow.Author.Tests.{eqb-true, eqb-false, not-true, not-false}
 use lib.ListN.{length}
 use Rattle.basics.specs.Lists.{at}
-
 use Rattle.tables.specs.laws.Suffix.{suffix-reaches, suffix-entry}
 use Rattle.scans.specs.Remember.{memFrom}
 use Rattle.scans.specs.inside.Stamp.{recalled}
@@ -70,8 +69,8 @@ loop-again c =
       omega arith,
       omega arith,
       rule-equal (a .x .now) (a .y .now) (a .mem .now) (a .start .at) (l .k) (l .k - 1) (l .c) (omega arith) (c .before .before .before .before .before .before .before .on .ensures) (c .before .before .before .before .before .before .recall .ensures)
-      (c .before .before .before .before .before .if1 .taken) (meet .ensures .1) (eqb-true _ _ (sym (meet .ensures .0) ∙ not-false _ (c .if2 .left)))
-      ∙ l .inv .2,
+          (c .before .before .before .before .before .if1 .taken) (meet .ensures .1) (eqb-true _ _ (sym (meet .ensures .0) ∙ not-false _ (c .if2 .left)))
+          ∙ l .inv .2,
     )
 
 entry-requires : tie.Need-entry-requires Inv-loop μ-loop
@@ -96,8 +95,8 @@ loop-again-2 c =
       omega arith,
       omega arith,
       rule-skips (a .x .now) (a .y .now) (a .mem .now) (a .start .at) (l .k) (l .k - 1) (l .c) (omega arith) (c .before .before .before .before .on .ensures) (c .before .before .before .recall .ensures)
-      (e .0) (c .before .before .if1 .left) (c .if3 .taken)
-      ∙ l .inv .2,
+          (e .0) (c .before .before .if1 .left) (c .if3 .taken)
+          ∙ l .inv .2,
     )
 
 returns-2 : tie.Need-returns-2 Inv-loop μ-loop
