@@ -36,9 +36,6 @@
  *   check                 the log test, then 20, 4, 5
  * 15, 16 and 17 carry the number of their entry, from 0; a wrong last end is 16 and carries the count. All
  * other refusals carry entry 0.
- *
- * A call keeps nothing after it has returned and shares nothing with other calls: calls may run at the same
- * time as long as no room is lent to two of them.
  */
 #ifndef NAHUITEPOL_H
 #define NAHUITEPOL_H

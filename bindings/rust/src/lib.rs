@@ -1,7 +1,7 @@
 //! Nahuitepol for Rust: exact search for a probe in a stream, and the overlap check of draw logs.
 //!
-//! A safe face over the C interface: slices in, structs of plain numbers out. No call panics, allocates or
-//! keeps anything.
+//! A safe face over the C interface: slices in, structs of plain numbers out. The borrows see to the caller's
+//! one duty there, that lent rooms do not overlap.
 //!
 //! Each answer begins with a refusal number; 0 says that the call did its work. On a refusal every lent room is
 //! unchanged and every other number is 0, but for the entry number beside 15, 16 and 17.
