@@ -6,8 +6,8 @@
  * position rooms and result rooms all hold 32-bit numbers. A room may be longer than needed; what a call does
  * not promise to write stays as it was, and what a room holds before the call does not matter.
  *
- * THE CALLER'S ONE DUTY: lent rooms overlap neither each other nor the inputs, and each array has as many
- * elements as its count says. Everything else is answered: no input is undefined.
+ * THE CALLER'S ONE DUTY, beyond lending as many elements as each count says: lent rooms overlap neither each
+ * other nor the inputs. With that kept, every input gets an answer.
  *
  * REFUSALS. Every answer has a refusal number; 0 says that the call did its work. On a refusal every lent room
  * is unchanged and every other number of the answer is 0, but for the entry number beside 15, 16 and 17.

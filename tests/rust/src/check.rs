@@ -16,7 +16,7 @@ pub struct Check {
 /// The check of a log with p draws, given the lengths of the work rooms and of the result room.
 pub fn check(log: &[u8], p: u32, work_rooms: &[usize], result_room: usize) -> Result<Check, Refusal> {
     let entries = log::test(log)?;
-    if p < 1 || p > MOST_DRAWS {
+    if !(1..=MOST_DRAWS).contains(&p) {
         return Err(Refusal::plain(20));
     }
     let probe_length = probe_length(p);

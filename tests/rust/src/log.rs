@@ -101,7 +101,7 @@ pub fn test(log: &[u8]) -> Result<Vec<Entry>, Refusal> {
     if trailer[8..] != MARK {
         return Err(Refusal::plain(12));
     }
-    if count < 1 || count > MOST_REPLICATES {
+    if !(1..=MOST_REPLICATES).contains(&count) {
         return Err(Refusal::plain(13));
     }
     let directory_size = ENTRY_SIZE as u64 * u64::from(count);

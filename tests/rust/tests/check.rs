@@ -297,11 +297,8 @@ fn a_short_work_room_is_refused_4_even_if_no_owner_is_probed() {
 
 #[test]
 fn work_rooms_end_at_0_even_if_no_search_was_made() {
-    let nothing_to_search = [
-        numbered(&[&draws([1, 2, 3])]),
-        numbered(&[&[], &[], &[]]),
-        numbered(&[&draws([1]), &draws([2])]),
-    ];
+    let nothing_to_search =
+        [numbered(&[&draws([1, 2, 3])]), numbered(&[&[], &[], &[]]), numbered(&[&draws([1]), &draws([2])])];
     for parts in &nothing_to_search {
         assert_eq!(compare(parts, 3).pairs, 0);
         assert_eq!(compare(parts, 512).pairs, 0);

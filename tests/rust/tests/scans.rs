@@ -473,19 +473,11 @@ fn equal_bytes_at_the_greatest_length_pass_2_to_the_32_comparisons() {
     let m = 257;
     let windows = (LONGEST_STREAM - m + 1) as u64;
     assert!(windows * m as u64 > 1 << 32);
-    for (scanner, comparisons) in
-        [(Plain, windows * m as u64), (Remembering, LONGEST_STREAM as u64)]
-    {
+    for (scanner, comparisons) in [(Plain, windows * m as u64), (Remembering, LONGEST_STREAM as u64)] {
         let mut rooms = Rooms::new([m; 3], 3);
         let answer = rooms.search(scanner, &stream[..m], &stream);
-        let expected = Searched {
-            refusal: 0,
-            entry: 0,
-            occurrences: windows,
-            written: 3,
-            windows,
-            comparisons,
-        };
+        let expected =
+            Searched { refusal: 0, entry: 0, occurrences: windows, written: 3, windows, comparisons };
         assert_eq!(answer, expected, "{scanner:?} scan");
         assert!(rooms.positions.holds_just(&[0, 1, 2]), "{scanner:?} scan");
     }
