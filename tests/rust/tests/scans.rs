@@ -1,6 +1,8 @@
 //! Both scans, compared with a search at every position and with their own steps: positions, windows,
 //! comparisons, every room, and what the calls refuse.
 
+use std::fmt::{self, Display, Formatter};
+
 use nahuitepol::Searched;
 use nahuitepol_tests::rooms::Room;
 use nahuitepol_tests::scans::{self, positions, Probe, Scan, LONGEST_STREAM};
@@ -59,22 +61,22 @@ impl Rooms {
         }
     }
 
-    fn assert_untouched(&self, context: &str) {
-        assert!(self.suffix.is_untouched(), "suffix room: {context}");
-        assert!(self.shift.is_untouched(), "shift room: {context}");
-        assert!(self.memory.is_untouched(), "memory room: {context}");
-        assert!(self.positions.is_untouched(), "position room: {context}");
+    fn assert_untouched(&self, case: Case) {
+        assert!(self.suffix.is_untouched(), "suffix room: {case}");
+        assert!(self.shift.is_untouched(), "shift room: {case}");
+        assert!(self.memory.is_untouched(), "memory room: {case}");
+        assert!(self.positions.is_untouched(), "position room: {case}");
     }
 
-    fn assert_after_success(&self, scanner: Scanner, probe: &Probe, written: &[u32], context: &str) {
+    fn assert_after_success(&self, case: Case, probe: &Probe, written: &[u32]) {
         let zeros = vec![0; probe.length()];
-        assert!(self.suffix.holds_just(&probe.suffix), "suffix room: {context}");
-        assert!(self.shift.holds_just(&probe.shift), "shift room: {context}");
-        match scanner {
-            Plain => assert!(self.memory.is_untouched(), "memory room: {context}"),
-            Remembering => assert!(self.memory.holds_just(&zeros), "memory room: {context}"),
+        assert!(self.suffix.holds_just(&probe.suffix), "suffix room: {case}");
+        assert!(self.shift.holds_just(&probe.shift), "shift room: {case}");
+        match case.scanner {
+            Plain => assert!(self.memory.is_untouched(), "memory room: {case}"),
+            Remembering => assert!(self.memory.holds_just(&zeros), "memory room: {case}"),
         }
-        assert!(self.positions.holds_just(written), "position room: {context}");
+        assert!(self.positions.holds_just(written), "position room: {case}");
     }
 }
 
@@ -97,24 +99,32 @@ fn expected_answer(scan: &Scan, position_room: usize) -> Searched {
     }
 }
 
-/// Probe and stream for a message, unless they are long.
-fn described(scanner: Scanner, x: &[u8], y: &[u8]) -> String {
-    if x.len() + y.len() <= 200 {
-        format!("{scanner:?} scan, probe {x:?}, stream {y:?}")
-    } else {
-        format!("{scanner:?} scan, probe of {} bytes, stream of {}", x.len(), y.len())
+/// A search, for messages.
+struct Case<'a> {
+    scanner: Scanner,
+    x: &'a [u8],
+    y: &'a [u8],
+}
+
+impl Display for Case<'_> {
+    fn fmt(&self, out: &mut Formatter) -> fmt::Result {
+        let Case { scanner, x, y } = self;
+        write!(out, "{scanner:?} scan, probe of {} bytes, stream of {}", x.len(), y.len())?;
+        if x.len() + y.len() <= 200 {
+            write!(out, ": {x:?} in {y:?}")?;
+        }
+        Ok(())
     }
 }
 
 /// One search in these rooms, compared in its answer and in every entry of every room.
 fn compare_in(mut rooms: Rooms, scanner: Scanner, probe: &Probe, y: &[u8]) -> Searched {
+    let case = Case { scanner, x: &probe.x, y };
     let scan = steps(scanner, probe, y);
-    let context = described(scanner, &probe.x, y);
     let answer = rooms.search(scanner, &probe.x, y);
-    assert_eq!(answer, expected_answer(&scan, rooms.positions.length()), "{context}");
-    assert_eq!(scan.positions, positions(&probe.x, y), "{context}");
-    let written = &scan.positions[..answer.written as usize];
-    rooms.assert_after_success(scanner, probe, written, &context);
+    assert_eq!(answer, expected_answer(&scan, rooms.positions.length()), "{case}");
+    assert!(scan.positions == positions(&probe.x, y), "the steps miss a position: {case}");
+    rooms.assert_after_success(case, probe, &scan.positions[..answer.written as usize]);
     answer
 }
 
@@ -143,9 +153,9 @@ fn assert_demand_3(m: usize, n: usize, plain: Searched, remembering: Searched) {
 fn expect_refusal(scanner: Scanner, x: &[u8], y: &[u8], work: [usize; 3], number: u32) {
     let mut rooms = Rooms::new(work, 5);
     let answer = rooms.search(scanner, x, y);
-    let context = format!("{scanner:?} scan, m {}, n {}, rooms {work:?}", x.len(), y.len());
-    assert_eq!(answer, Searched { refusal: number, ..ZEROS }, "{context}");
-    rooms.assert_untouched(&context);
+    let case = Case { scanner, x, y };
+    assert_eq!(answer, Searched { refusal: number, ..ZEROS }, "rooms {work:?}: {case}");
+    rooms.assert_untouched(case);
 }
 
 /// A row: probe, stream; positions, windows, plain and remembering comparisons.
@@ -156,9 +166,9 @@ fn figure(x: &[u8], y: &[u8], found: &[u32], windows: u64, plain: u64, rememberi
         let occurrences = found.len() as u64;
         let expected =
             Searched { refusal: 0, entry: 0, occurrences, written: occurrences, windows, comparisons };
-        let context = described(scanner, x, y);
-        assert_eq!(answer, expected, "{context}");
-        assert!(rooms.positions.holds_just(found), "{context}");
+        let case = Case { scanner, x, y };
+        assert_eq!(answer, expected, "{case}");
+        assert!(rooms.positions.holds_just(found), "{case}");
     }
     compare_words(x, y);
 }
@@ -411,7 +421,7 @@ fn one_search_after_another_in_the_same_rooms() {
         let (x, y) = (generator.word(2, m), generator.word(2, n));
         let answer = nahuitepol::remember(&x, &y, &mut suffix, &mut shift, &mut memory, &mut found);
         let scan = Probe::new(&x).remember(&y);
-        assert_eq!(answer, expected_answer(&scan, 64), "{}", described(Remembering, &x, &y));
+        assert_eq!(answer, expected_answer(&scan, 64), "{}", Case { scanner: Remembering, x: &x, y: &y });
         assert_eq!(found[..scan.positions.len()], scan.positions);
     }
 }
@@ -424,7 +434,7 @@ fn the_inputs_stay_as_they_were() {
         let before = (x.clone(), y.clone());
         for scanner in BOTH {
             assert_eq!(Rooms::new([5; 3], 40).search(scanner, &x, &y).refusal, 0);
-            assert!((&x, &y) == (&before.0, &before.1), "{}", described(scanner, &x, &y));
+            assert!((&x, &y) == (&before.0, &before.1), "the {scanner:?} scan wrote to an input");
         }
     }
 }
@@ -568,7 +578,7 @@ fn the_lowest_number_is_given_where_several_causes_hold() {
                         Some(number) => expect_refusal(scanner, &x, y, work, number),
                         None => {
                             let answer = Rooms::new(work, 5).search(scanner, &x, y);
-                            assert_eq!(answer.refusal, 0, "{}", described(scanner, &x, y));
+                            assert_eq!(answer.refusal, 0, "{}", Case { scanner, x: &x, y });
                         }
                     }
                 }
