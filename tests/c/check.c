@@ -59,11 +59,30 @@ static void a_refused_log(void)
     EXPECT(untouched(suffix, 256) && untouched(shift, 256) && untouched(memory, 256) && untouched(result, 24));
 }
 
+/* The blocks have 32, 40 and 5 draws. From p = 6 on only 3's probe occurs elsewhere, in 7. */
+static void every_p(void)
+{
+    for (uint32_t p = 1; p <= 512; p++) {
+        size_t need = 8 * (size_t)p;
+        uint32_t *suffix = room(need), *shift = room(need), *memory = room(need), *result = room(24);
+        nahui_checked answer = nahui_check(document_log(), DOCUMENT_LOG_LENGTH, p, suffix, need, shift, need,
+                                           memory, need, result, 24);
+        EXPECT(answer.refusal == 0);
+        EXPECT(answer.unprobed == (uint32_t)(p > 32) + (uint32_t)(p > 40) + (uint32_t)(p > 5));
+        EXPECT(p <= 5 || answer.pairs == (p <= 32 ? 1 : 0));
+        EXPECT(zeros_in_front(suffix, need, need));
+        EXPECT(zeros_in_front(shift, need, need));
+        EXPECT(zeros_in_front(memory, need, need));
+        give_arrays_back();
+    }
+}
+
 int main(void)
 {
     run("check of document 01's log", check_of_the_document_log);
     run("one replicate needs no result room", one_replicate);
     run("refusals come in the order log, 20, 4, 5", refusals_in_their_order);
     run("a refused log carries its entry", a_refused_log);
+    run("every p from 1 to 512", every_p);
     return status();
 }

@@ -4,6 +4,8 @@
 #include "nahuitepol.h"
 #include "support.h"
 
+#include <string.h>
+
 static bool test_refuses(nahui_tested answer, uint32_t number, uint32_t entry)
 {
     return answer.refusal == number && answer.entry == entry && answer.count == 0;
@@ -61,6 +63,21 @@ static void refusals_with_an_entry(void)
     EXPECT(find_refuses(nahui_log_find(wrong_end, DOCUMENT_LOG_LENGTH, 3), 16, 3));
 }
 
+static void cut_logs(void)
+{
+    const size_t n = DOCUMENT_LOG_LENGTH;
+    uint8_t whole[DOCUMENT_LOG_LENGTH];
+    memcpy(whole, document_log(), n);
+    for (size_t length = 0; length < n; length++) {
+        const uint8_t *front = bytes(whole, length), *tail = bytes(whole + n - length, length);
+        EXPECT(test_refuses(nahui_log_test(front, length), length < 12 ? 10 : 12, 0));
+        EXPECT(test_refuses(nahui_log_test(tail, length), length < 12 ? 10 : 14, 0));
+        EXPECT(find_refuses(nahui_log_find(front, length, 3), length < 12 ? 10 : 12, 0));
+        EXPECT(find_refuses(nahui_log_find(tail, length, 3), length < 12 ? 10 : 14, 0));
+        give_arrays_back();
+    }
+}
+
 int main(void)
 {
     run("test of document 01's log", test_of_the_document_log);
@@ -68,5 +85,6 @@ int main(void)
     run("no log at all is refused 10", no_log_at_all);
     run("a wrong mark is refused 12", a_wrong_mark);
     run("15, 16 and 17 carry their entry", refusals_with_an_entry);
+    run("every front and every tail of a log is refused", cut_logs);
     return status();
 }

@@ -4,6 +4,8 @@
 #include "nahuitepol.h"
 #include "support.h"
 
+#include <string.h>
+
 static const uint32_t abab_suffix[] = {0, 2, 0, 4};
 static const uint32_t abab_shift[] = {2, 2, 4, 1};
 
@@ -84,6 +86,42 @@ static void short_work_rooms(void)
     EXPECT(untouched(suffix, 4) && untouched(shift, 4) && untouched(memory, 4) && untouched(positions, 2));
 }
 
+/* Writes every position of the probe, found by a look at each, and answers their number. */
+static size_t look_everywhere(const uint8_t *probe, size_t m, const uint8_t *stream, size_t n, uint32_t *found)
+{
+    size_t count = 0;
+    for (size_t j = 0; j + m <= n; j++)
+        if (memcmp(stream + j, probe, m) == 0)
+            found[count++] = (uint32_t)j;
+    return count;
+}
+
+static void search_both_ways(const uint8_t *probe, size_t m, const uint8_t *stream, size_t n)
+{
+    uint32_t found[64];
+    size_t count = look_everywhere(probe, m, stream, n, found);
+    const uint8_t *x = bytes(probe, m), *y = bytes(stream, n);
+    uint32_t *suffix = room(m), *shift = room(m), *memory = room(m);
+    uint32_t *plainly = room(count), *remembering = room(count);
+    EXPECT(nahui_plain(x, m, y, n, suffix, m, shift, m, plainly, count).occurrences == count);
+    EXPECT(nahui_remember(x, m, y, n, suffix, m, shift, m, memory, m, remembering, count).occurrences == count);
+    EXPECT(holds_just(plainly, count, found, count));
+    EXPECT(holds_just(remembering, count, found, count));
+    EXPECT(zeros_in_front(memory, m, m));
+    give_arrays_back();
+}
+
+/* Stretches of a word with many repetitions, searched for one another. */
+static void stretches_of_every_length(void)
+{
+    const char *word = "abaababaabaababaababaabaababaabaababaababaabaababaabab";
+    const uint8_t *letters = (const uint8_t *)word;
+    for (size_t m = 1; m <= 20; m++)
+        for (size_t n = 0; n <= strlen(word); n++)
+            for (size_t start = 0; start < 3; start++)
+                search_both_ways(letters + start, m, letters, n);
+}
+
 int main(void)
 {
     run("plain scan of abab in ababab", plain_scan);
@@ -92,5 +130,6 @@ int main(void)
     run("empty streams leave tables and four zeros", empty_streams);
     run("empty probes are refused 1", empty_probes);
     run("short work rooms are refused 4", short_work_rooms);
+    run("stretches of every length up to 20", stretches_of_every_length);
     return status();
 }

@@ -1,3 +1,6 @@
+/*
+ * Support for the C tests; see support.h.
+ */
 #define _DEFAULT_SOURCE /* for MAP_ANONYMOUS */
 
 #include "support.h"
@@ -12,8 +15,6 @@
 
 static const char *why; /* the first condition that did not hold in the running case */
 static bool any_failed;
-
-static void give_arrays_back(void);
 
 void expect(bool holds, const char *condition)
 {
@@ -112,7 +113,7 @@ static lent note(lent one)
     return one;
 }
 
-static void give_arrays_back(void)
+void give_arrays_back(void)
 {
     while (array_count > 0)
         give_back(arrays[--array_count]);

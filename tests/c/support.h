@@ -33,6 +33,9 @@ uint32_t *room(size_t length);
 /* A copy of these bytes, which may be read only. */
 const uint8_t *bytes(const void *content, size_t length);
 
+/* Gives all arrays of the case back, for a case that takes many in turn. */
+void give_arrays_back(void);
+
 /* True where the room begins with the expected numbers, and all others are untouched. */
 bool holds_just(const uint32_t *room, size_t length, const uint32_t *front, size_t front_length);
 

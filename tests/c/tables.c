@@ -71,6 +71,22 @@ static void short_rooms(void)
     EXPECT(nahui_shift(bytes("abab", 4), 4, NULL, 0) == 4);
 }
 
+/* Of equal bytes, both tables count from 1. */
+static void equal_bytes_of_every_length(void)
+{
+    uint8_t equal[130] = {0};
+    uint32_t counted[130];
+    for (uint32_t m = 1; m <= 130; m++) {
+        uint32_t *suffix = room(m), *shift = room(m);
+        counted[m - 1] = m;
+        EXPECT(nahui_suffix(bytes(equal, m), m, suffix, m) == 0);
+        EXPECT(nahui_shift(bytes(equal, m), m, shift, m) == 0);
+        EXPECT(holds_just(suffix, m, counted, m));
+        EXPECT(holds_just(shift, m, counted, m));
+        give_arrays_back();
+    }
+}
+
 int main(void)
 {
     run("suffix table of abab", suffix_of_abab);
@@ -79,5 +95,6 @@ int main(void)
     run("empty probes are refused 1", empty_probes);
     run("probes of 4097 bytes are refused 2", probes_of_4097_bytes);
     run("short rooms are refused 4", short_rooms);
+    run("equal bytes of every length up to 130", equal_bytes_of_every_length);
     return status();
 }

@@ -18,6 +18,8 @@ struct Rooms {
 /// The lengths of suffix, shift and memory room.
 type Work = [usize; 3];
 
+const NO_LINES: [[u32; 4]; 0] = [];
+
 impl Rooms {
     fn new(work: Work, result: usize) -> Rooms {
         Rooms {
@@ -140,8 +142,8 @@ fn equal_blocks_overlap_both_ways_in_ascending_order() {
 #[test]
 fn an_owner_is_not_searched_for_its_own_probe() {
     let alone = draws([1, 2, 1, 2, 1, 2]);
-    assert_eq!(lines(&[&alone], 2), [[0; 4]; 0]);
-    assert_eq!(lines(&[&alone, &draws([3, 4])], 2), [[0; 4]; 0]);
+    assert_eq!(lines(&[&alone], 2), NO_LINES);
+    assert_eq!(lines(&[&alone, &draws([3, 4])], 2), NO_LINES);
 }
 
 #[test]
@@ -171,11 +173,11 @@ fn the_first_offset_counts_from_the_start_of_the_searched_block() {
 #[test]
 fn a_probe_across_two_blocks_or_in_the_directory_is_not_found() {
     let owner = draws([41, 42]);
-    assert_eq!(lines(&[&owner, &draws([1, 41]), &draws([42, 2])], 2), [[0; 4]; 0]);
+    assert_eq!(lines(&[&owner, &draws([1, 41]), &draws([42, 2])], 2), NO_LINES);
     let directory_like = draws([1]);
     let log = numbered(&[&directory_like, &draws([2])]).bytes();
     assert!(log[16..].windows(8).any(|bytes| bytes == directory_like), "the directory has these bytes");
-    assert_eq!(lines(&[&directory_like, &draws([2])], 1), [[0; 4]; 0]);
+    assert_eq!(lines(&[&directory_like, &draws([2])], 1), NO_LINES);
 }
 
 #[test]

@@ -230,9 +230,10 @@ fn a_directory_start_whose_sum_would_wrap_in_32_bits_is_refused_14() {
 #[test]
 fn an_id_not_above_the_one_before_is_refused_15_with_its_entry() {
     for place in 1..64 {
-        for step in [0, 1, place] {
+        let id_before = 100 + place - 1;
+        for id in [0, 100, id_before] {
             let mut entries: Vec<Entry> = (0..64).map(|k| entry(100 + k, 0, 0)).collect();
-            entries[place as usize].id = 100 + place - 1 - step.min(place - 1);
+            entries[place as usize].id = id;
             expect_refusal(&with_entries(0, &entries).bytes(), 15, place);
         }
     }
