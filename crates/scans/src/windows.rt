@@ -152,9 +152,11 @@ fn below(
                     count: c,
                 };
             } else {
+                // Counted from i, before the suffix entry is taken off.
+                let behind = m - k;
                 return Passed {
                     left: k - s,
-                    kept: m - k,
+                    kept: behind,
                     count: c,
                 };
             }
