@@ -14,9 +14,9 @@ use Rattle.scans.specs.Trace.{stopped, Pass, more}
 use Rattle.scans.specs.Plain.{plainPass}
 use Rattle.scans.specs.Remember.{stops, memFrom, memPass}
 use Rattle.scans.specs.inside.Stamp.{recalled, Stands}
-use Rattle.scans.specs.inside.Window.{leftOf, seenOf, passedOf, Ahead}
+use Rattle.scans.specs.inside.Window.{leftOf, seenOf, passedOf, Ahead, Quiet}
 use Rattle.scans.specs.laws.Stamps.{place-at}
-use Rattle.scans.specs.laws.Remember.{step-same, step-diff, step-skip, step-match, step-stop, mem-fuel, plain-mem}
+use Rattle.scans.specs.laws.Remember.{step-same, step-diff, step-skip, step-match, step-stop, mem-fuel, mem-left, mem-kept, plain-mem}
 
 -- one comparison more
 pub passed-more : (p : Pass) (c : ℕ) → passedOf (more p) c ≡ passedOf p (c + 1)
@@ -37,7 +37,7 @@ module _ (x y : List ℕ) (R : ℕ → ℕ) (j : ℕ) where
 
   module _ (low c : ℕ) (r : Seen) (a : Ahead x y j low c r) (quiet : (t : ℕ) → low ≤ t → R (j + t) ≡ 0) where
     -- all bytes down to low are equal: the pass goes on from low
-    pub ahead-all : r .left ≤ low → passedOf (memPass x y R j) c ≡ passedOf (memFrom x y R j low low) (r .count)
+    ahead-all : r .left ≤ low → passedOf (memPass x y R j) c ≡ passedOf (memFrom x y R j low low) (r .count)
     ahead-all h =
         let n : ℕ = length x - low in
         let u : low + n ≡ length x = omega (arith, a .from, a .to) in
@@ -45,7 +45,7 @@ module _ (x y : List ℕ) (R : ℕ → ℕ) (j : ℕ) where
         rw (u, v) at (mem-over n low c (λ t p q. quiet t p) (λ t p q. a .equal t (omega (arith, a .from)) (omega arith)))
 
     -- two bytes are unequal: the pass stops
-    pub ahead-some : low < r .left → passedOf (memPass x y R j) c ≡ record { left = r .left; kept = length x - r .left; count = r .count }
+    ahead-some : low < r .left → passedOf (memPass x y R j) c ≡ record { left = r .left; kept = length x - r .left; count = r .count }
     ahead-some h =
         let n : ℕ = length x - r .left in
         let i : ℕ = r .left - 1 in
@@ -70,6 +70,25 @@ plain-ahead x y j c r a = go (r .left) refl ∙ ap (λ (p : Pass). seenOf p c) (
         let q : r .count ≡ r .count + 0 = omega arith in
         (λ k. record { left = e k; count = q k }) ∙ sym (ap seen (ahead-all x y (λ e. 0) j 0 c r a (λ t p. refl) (omega arith)))
     go (suc l) e = sym (ap seen (ahead-some x y (λ e. 0) j 0 c r a (λ t p. refl) (omega arith)))
+
+-- THE WHOLE REMEMBERING WINDOW, as the code takes it: at `low` and above nothing is remembered, so there it only compares
+module _ (x y mem : List ℕ) (j top low c : ℕ) {r : Seen} (e : low ≡ top - j) (a : Ahead x y j low c r) (q : Quiet (length x) mem j top) where
+  nothing : (t : ℕ) → low ≤ t → recalled mem (length x) (j + t) ≡ 0
+  nothing t l = q .quiet (j + t) (omega arith) (omega arith)
+
+  pub window-stops : low < r .left
+      → (record { left = r .left; kept = length x - r .left; count = r .count } ≡ passedOf (memPass x y (recalled mem (length x)) j) c)
+      × ((r .left ≤ length x) × (length x - r .left ≤ length x))
+  window-stops l = (sym (ahead-some x y (recalled mem (length x)) j low c r a nothing l), (a .to, omega arith))
+
+  pub window-goes-on : r .left ≤ low → {w : Passed} → w ≡ passedOf (memFrom x y (recalled mem (length x)) j low low) (r .count)
+      → (w ≡ passedOf (memPass x y (recalled mem (length x)) j) c) × ((w .left ≤ length x) × (w .kept ≤ length x))
+  window-goes-on l {w} p =
+      let R : ℕ → ℕ = recalled mem (length x) in
+      let u : low ≤ length x = omega (arith, a .from, a .to) in (
+        p ∙ sym (ahead-all x y R j low c r a nothing l),
+        (omega (arith, ap (λ (w : Passed). w .left) p, mem-left x y R j low low), omega (arith, ap (λ (w : Passed). w .kept) p, mem-kept x y R j low low)),
+      )
 
 below-entry : (k i s a : ℕ) → k ≡ suc i → s ≡ a → s ≤ i → k - s ≡ suc (i - a)
 below-entry k i s a e q l = omega arith

@@ -1,15 +1,10 @@
--- `scans::windows::remembering` meets its contract: above `low` the pass only compares, since nothing is remembered there.
+-- `scans::windows::remembering` meets its contract: what is compared above `low`, and what is passed below it, is the whole window.
 -- Assumes nothing.
-use Prim.Native.Nat.{ℕ, _+_, _≤_}
-use mathlib.Core.Path.{_≡_, sym, ap, _∙_}
 use native.Mathlib.Omega.{arith}
-use borrow.Author.Needs.{needs}
 use lib.ListN.{length}
-use Rattle.basics.specs.Lists.{at}
-use Rattle.scans.specs.declared.windows.Passed.{Passed}
-use Rattle.scans.specs.inside.Stamp.{recalled}
-use Rattle.scans.specs.laws.Remember.{mem-left, mem-kept}
-use Rattle.scans.specs.laws.Passes.{ahead-some, ahead-all}
+use Prim.Native.Nat.{_≤_}
+use borrow.Author.Needs.{needs}
+use Rattle.scans.specs.laws.Passes.{window-stops, window-goes-on}
 use Rattle.scans.proofs.windows.remembering.Statement.{statement}
 use Rattle.scans.proofs.windows.remembering.Tie as tie
 
@@ -25,13 +20,8 @@ sub-t13 c = search needs
 returns : tie.Need-returns
 returns c =
     let s = c .before .before .before .before .before .before .before in
-    let x = s .args .x .now in
-    let j = s .args .start .at in
-    let R = recalled (s .args .mem .now) (length x) in
-    let low = c .before .before .less .result in
-    let seen = c .before .ahead in
-    let quiet : (t : ℕ) → low ≤ t → R (j + t) ≡ 0 = λ t l. s .pre .1 .1 .1 .0 .quiet (j + t) (omega arith) (omega (arith, c .before .before .less .ensures)) in
-    (sym (ahead-some x (s .args .y .now) R j low (s .args .count) (seen .result) (seen .ensures) quiet (c .if1 .taken)), (seen .ensures .to, omega arith))
+    let a = s .args in
+    window-stops (a .x .now) (a .y .now) (a .mem .now) (a .start .at) (a .top) (c .before .before .less .result) (a .count) (c .before .before .less .ensures) (c .before .ahead .ensures) (s .pre .1 .1 .1 .0) (c .if1 .taken)
 
 below-requires : tie.Need-below-requires
 below-requires c κs =
@@ -43,21 +33,9 @@ below-requires c κs =
 returns-2 : tie.Need-returns-2
 returns-2 c =
     let s = c .before .before .before .before .before .before .before .before in
-    let x = s .args .x .now in
-    let y = s .args .y .now in
-    let j = s .args .start .at in
-    let R = recalled (s .args .mem .now) (length x) in
-    let low = c .before .before .before .less .result in
-    let seen = c .before .before .ahead in
-    let quiet : (t : ℕ) → low ≤ t → R (j + t) ≡ 0 = λ t l. s .pre .1 .1 .1 .0 .quiet (j + t) (omega arith) (omega (arith, c .before .before .before .less .ensures)) in
-    let e = c .below .ensures in
-    let under : low ≤ length x = omega (arith, c .before .before .before .less .ensures, s .pre .1 .1 .1 .0 .under) in (
-      e ∙ sym (ahead-all x y R j low (s .args .count) (seen .result) (seen .ensures) quiet (omega arith)),
-      (
-        omega (arith, ap (λ (r : Passed). r .left) e, mem-left x y R j low low),
-        omega (arith, ap (λ (r : Passed). r .kept) e, mem-kept x y R j low low),
-      ),
-    )
+    let a = s .args in
+    window-goes-on (a .x .now) (a .y .now) (a .mem .now) (a .start .at) (a .top) (c .before .before .before .less .result) (a .count) (c .before .before .before .less .ensures) (c .before .before .ahead .ensures) (s .pre .1 .1 .1 .0) (c .before .if1 .left)
+    (c .below .ensures)
 
 pub remembering-spec : {M : Type 1} → statement M
 remembering-spec =
