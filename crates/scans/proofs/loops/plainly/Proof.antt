@@ -57,7 +57,7 @@ loop-again c =
     let e = endOf (w .plainly .result .left) in
     record {
       ps = l .inv .ps ++ found (l .j) e [];
-      at = plain-next (s .pre .0) (l .inv .at) (w .before .loop-test .taken) (w .plainly .ensures .0) (c .by .ensures .0);
+      at = plain-next (s .pre .0) (l .inv .at) (omega arith) (w .plainly .ensures .0) (c .by .ensures .0);
       noted = noted-more (l .j) e (l .inv .noted) (n .ensures .0) (n .ensures .1);
     }
 

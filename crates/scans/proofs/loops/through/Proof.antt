@@ -86,7 +86,7 @@ loop-again c =
     let e = endOf (w .result .left) in
     record {
       ps = l .inv .ps ++ found (l .p .at) e [];
-      at = mem-next (s .pre .0) (l .inv .at) (c .before .before .before .before .before .before .before .before .before .before .before .before .if1 .taken) (w .ensures .0) (c .before .by .ensures .0) (k .ensures) (k .kept .0) (c .on .ensures);
+      at = mem-next (s .pre .0) (l .inv .at) (omega (arith, c .before .before .before .before .before .before .before .before .before .before .before .before .if1 .taken)) (w .ensures .0) (c .before .by .ensures .0) (k .ensures) (k .kept .0) (c .on .ensures);
       noted = noted-more (l .p .at) e (l .inv .noted) (n .ensures .0) (n .ensures .1);
     }
 
