@@ -152,10 +152,11 @@ fn below(
                     count: c,
                 };
             } else {
+                let stop = k - s;
                 // Counted from i, before the suffix entry is taken off.
                 let behind = m - k;
                 return Passed {
-                    left: k - s,
+                    left: stop,
                     kept: behind,
                     count: c,
                 };

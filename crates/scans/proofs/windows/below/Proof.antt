@@ -44,8 +44,8 @@ shared-slice-read-meet-2 c = omega arith
 meet-requires : tie.Need-meet-requires Inv-loop μ-loop
 meet-requires c κs = omega arith
 
-sub-t24 : tie.Need-sub-t24 Inv-loop μ-loop
-sub-t24 c = omega arith
+sub-t25 : tie.Need-sub-t25 Inv-loop μ-loop
+sub-t25 c = omega arith
 
 returns : tie.Need-returns Inv-loop μ-loop
 returns c =
@@ -109,13 +109,13 @@ returns-2 c =
     (e .0) (c .before .if3 .left) (c .if4 .taken)
     ∙ l .inv .2
 
-sub-behind : tie.Need-sub-behind Inv-loop μ-loop
-sub-behind c = omega arith
-
-sub-t27 : tie.Need-sub-t27 Inv-loop μ-loop
-sub-t27 c =
+sub-stop : tie.Need-sub-stop Inv-loop μ-loop
+sub-stop c =
     let s = c .before .before .before .before .before .before .before .before .before .before .before .before in
     omega (arith, suffix-entry (s .args .x .now) (s .pre .1 .0 .begins) (c .before .before .before .before .before .before .before .loop .k - 1) (c .before .before .entry .ensures) (omega arith))
+
+sub-behind : tie.Need-sub-behind Inv-loop μ-loop
+sub-behind c = omega arith
 
 returns-3 : tie.Need-returns-3 Inv-loop μ-loop
 returns-3 c =
@@ -146,7 +146,7 @@ below-spec =
     shared-slice-read-meet
     shared-slice-read-meet-2
     meet-requires
-    sub-t24
+    sub-t25
     returns
     loop-less
     loop-again
@@ -155,7 +155,7 @@ below-spec =
     loop-less-2
     loop-again-2
     returns-2
+    sub-stop
     sub-behind
-    sub-t27
     returns-3
     returns-4)
