@@ -11,12 +11,14 @@ zeroByte = 48
 abbrev pub digitByte : ℕ → ℕ
 digitByte d = zeroByte + d
 
--- the digits of n, in at most so many steps: those of n / 10, and then the last one
+-- the digits w, and the digit d behind them
+abbrev pub followed : List ℕ → ℕ → List ℕ
+followed w d = w ++ (digitByte d ∷ [])
+
+-- the digits of n, in at most so many steps: one digit, or those of n / 10 and the last one behind them
 unfoldable pub digitsIn : ℕ → ℕ → List ℕ
 digitsIn zero n = []
-digitsIn (suc steps) n =
-    let earlier = digitsIn steps (n / 10) in
-    cond (ltb n 10) (digitByte n ∷ []) (earlier ++ (digitByte (n % 10) ∷ []))
+digitsIn (suc steps) n = let earlier = digitsIn steps (n / 10) in cond (ltb n 10) (digitByte n ∷ []) (followed earlier (n % 10))
 
 -- n + 1 steps are enough for n
 unfoldable pub digits : ℕ → List ℕ

@@ -10,7 +10,7 @@ use lib.ListN.{length, length-append, List·getD-append}
 use lib.Seq.{getD-at}
 use Rattle.basics.specs.Lists.{at}
 use Rattle.basics.specs.laws.Tests.{le-or-lt}
-use Rattle.lines.specs.Digits.{zeroByte, digitByte, digitsIn, digits, valueOn, value}
+use Rattle.lines.specs.Digits.{zeroByte, digitByte, followed, digitsIn, digits, valueOn, value}
 
 -- more steps than n change nothing
 digits-steps : (f g n : ℕ) → n < f → n < g → digitsIn f n ≡ digitsIn g n
@@ -19,7 +19,7 @@ digits-steps zero g n h l = absurd (omega arith)
 digits-steps (suc f) zero n h l = absurd (omega arith)
 digits-steps (suc f) (suc g) n h l =
     ⊎-elim
-    (λ (s : 10 ≤ n). rw (le-ltb n 10 s) (ap (λ (w : List ℕ). w ++ (digitByte (n % 10) ∷ [])) (digits-steps f g (n / 10) (omega arith) (omega arith))))
+    (λ (s : 10 ≤ n). rw (le-ltb n 10 s) (ap (λ (w : List ℕ). followed w (n % 10)) (digits-steps f g (n / 10) (omega arith) (omega arith))))
     (λ (s : n < 10). rw (lt-ltb n 10 s))
     (le-or-lt 10 n)
 
@@ -28,10 +28,10 @@ pub digits-one : (n : ℕ) → n < 10 → digits n ≡ digitByte n ∷ []
 unfolding digits digitsIn
 digits-one n h = rw (lt-ltb n 10 h)
 
-pub digits-more : (n : ℕ) → 10 ≤ n → digits n ≡ digits (n / 10) ++ (digitByte (n % 10) ∷ [])
+pub digits-more : (n : ℕ) → 10 ≤ n → digits n ≡ followed (digits (n / 10)) (n % 10)
 unfolding digits digitsIn
 digits-more n h =
-    rw (le-ltb n 10 h) (ap (λ (w : List ℕ). w ++ (digitByte (n % 10) ∷ [])) (digits-steps n (suc (n / 10)) (n / 10) (omega arith) (omega arith)))
+    rw (le-ltb n 10 h) (ap (λ (w : List ℕ). followed w (n % 10)) (digits-steps n (suc (n / 10)) (n / 10) (omega arith) (omega arith)))
 
 -- what holds of one digit, and of n where it holds of n / 10, holds of each number
 module _ (P : ℕ → Type 0) (one : (n : ℕ) → n < 10 → P n) (more : (n : ℕ) → 10 ≤ n → P (n / 10) → P n) where
@@ -48,12 +48,16 @@ unfolding valueOn
 value-append a [] w = refl
 value-append a (b ∷ v) w = value-append (a * 10 + (b - zeroByte)) v w
 
+value-followed : (w : List ℕ) (d : ℕ) → value (followed w d) ≡ value w * 10 + d
+unfolding value valueOn
+value-followed w d = value-append 0 w (digitByte d ∷ []) ∙ omega arith
+
 pub value-digits : (n : ℕ) → value (digits n) ≡ n
 unfolding value valueOn
 value-digits =
     by-digits (λ n. value (digits n) ≡ n)
     (λ n h. rw (digits-one n h) (omega arith))
-    (λ n h e. rw (digits-more n h, value-append, e) (omega (arith, div-add-mod' n 10)))
+    (λ n h e. rw (digits-more n h) (value-followed (digits (n / 10)) (n % 10) ∙ rw e (div-add-mod' n 10)))
 
 -- so two numbers never have the same digits
 pub digits-tell : (m n : ℕ) → digits m ≡ digits n → m ≡ n
