@@ -29,5 +29,6 @@ unfoldable pub valueOn : ℕ → List ℕ → ℕ
 valueOn a [] = a
 valueOn a (b ∷ w) = valueOn (a * 10 + (b - zeroByte)) w
 
+-- the number that the digits w name
 unfoldable pub value : List ℕ → ℕ
 value w = valueOn 0 w

@@ -5,7 +5,7 @@
 // another, each at the place that the last one answered, and the last answer is the length of the whole text.
 ghost use mathlib.Core.Path.{_≡_};
 ghost use mathlib.Core.List.{[], _∷_};
-ghost use Prim.Native.Nat.{_+_, _≤_, min};
+ghost use Prim.Native.Nat.{_+_, _≤_, _<_, min};
 ghost use lib.ListN.{length, drop};
 ghost use Rattle.lines.specs.Digits.{digitByte, digits};
 ghost use Rattle.lines.specs.Put.{lastPlace};
@@ -78,7 +78,7 @@ fn spell(text: &mut [u8], n: u64) -> usize
 
 // The byte of one digit.
 fn digit(d: u64) -> u8
-    requires { ⌜ d ≤ 9 ⌝ }
+    requires { ⌜ d < 10 ⌝ }
     ensures { λ r. ⌜ r ≡ digitByte d ⌝ }
 {
     b'0' + d as u8

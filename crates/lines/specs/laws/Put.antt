@@ -6,7 +6,7 @@ use Prim.Native.Nat.{ℕ, zero, suc, _+_, _≤_, _<_}
 use native.Mathlib.Nat.{add-suc, suc-add, add-zero}
 use native.Mathlib.Omega.{arith}
 use lib.ListN.{length, take, drop, set, length-append, length-set}
-use lib.Seq.{sets, set-out, length-sets, drop-nil, take-all, getD-set-same, getD-set-other}
+use lib.Seq.{set-out, drop-nil, take-all, getD-set-same, getD-set-other}
 use Rattle.basics.specs.Lists.{at}
 use Rattle.basics.specs.Rooms.{front}
 use Rattle.basics.specs.laws.Tests.{le-or-lt}
@@ -15,7 +15,8 @@ use Rattle.lines.specs.Put.{put, lastPlace, after}
 -- PUT: the buffer keeps its length
 pub put-length : (d : List ℕ) (p : ℕ) (w : List ℕ) → length (put d p w) ≡ length d
 unfolding put
-put-length d p w = length-sets d p w
+put-length d p [] = refl
+put-length d p (b ∷ w) = put-length (set d p b) (suc p) w ∙ length-set d p b
 
 -- one text after another is the two as one
 pub put-append : (d : List ℕ) (p : ℕ) (v w : List ℕ) → put (put d p v) (p + length v) w ≡ put d p (v ++ w)
@@ -48,7 +49,8 @@ put-inside d p (b ∷ w) (suc k) h l =
     rw (add-suc, ← suc-add p k) (put-inside (set d p b) (suc p) w k (omega arith) (omega (arith, length-set d p b)))
 
 -- a text from the front on: as much of it as the buffer holds, and then the rest of the buffer
-behind-first : (b : ℕ) (d : List ℕ) (p : ℕ) (w : List ℕ) → sets (b ∷ d) (suc p) w ≡ b ∷ sets d p w
+behind-first : (b : ℕ) (d : List ℕ) (p : ℕ) (w : List ℕ) → put (b ∷ d) (suc p) w ≡ b ∷ put d p w
+unfolding put
 behind-first b d p [] = refl
 behind-first b d p (c ∷ w) = behind-first b (set d p c) (suc p) w
 
