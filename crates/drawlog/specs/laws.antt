@@ -1,7 +1,9 @@
 -- Laws, for the proofs of this crate and for the layers above.
 -- the log's bytes, as the code reads them
 pub mod Log
--- the causes, and what an accepted log is
+-- the causes, and what a log without any of them is
 pub mod Refusal
--- the answers, by their cases
+-- what an accepted log looks like
+pub mod Accepted
+-- the answers, by their cases, and their agreement
 pub mod Promise

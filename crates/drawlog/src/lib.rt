@@ -1,7 +1,8 @@
 // The draw log: its test, the lookup by id and by entry number, and the blocks themselves. Bytes are read where they lie, never copied.
 ghost use mathlib.Core.Path.{_≡_};
-ghost use Prim.Native.Nat.{_≤_};
-ghost use Rattle.drawlog.specs.Promise.{testedOf, seek, foundOf, listedOf, BlockOf, BlockAt};
+ghost use Prim.Native.Nat.{_+_, _≤_};
+ghost use lib.ListN.{length};
+ghost use Rattle.drawlog.specs.Promise.{testedOf, seek, foundOf, listedOf, Stretch, BlockOf, BlockAt};
 ghost use Rattle.drawlog.specs.laws.Log.{Reaches};
 
 pub mod layout;
@@ -104,9 +105,7 @@ pub fn block(log: &[u8], id: u32) -> &[u8]
     ensures { λ r. ⌜ BlockOf (log .entry) id r ⌝ }
 {
     let f = find(log, id);
-    let start = wide(f.start);
-    let end = start + wide(f.length);
-    &log[start..end]
+    stretch(log, f.start, f.length)
 }
 
 // Entry k: its id, and its block's start and length. In a refused log and from the count on there is none.
@@ -143,9 +142,7 @@ pub fn block_at(log: &[u8], k: u32) -> &[u8]
     ensures { λ r. ⌜ BlockAt (log .entry) k r ⌝ }
 {
     let e = entry(log, k);
-    let start = wide(e.start);
-    let end = start + wide(e.length);
-    &log[start..end]
+    stretch(log, e.start, e.length)
 }
 
 // The first entry with this id; the count where none has it.
@@ -162,4 +159,14 @@ fn seek(s: &[u8], t: Log, id: u32) -> u32
         k += 1;
     }
     k
+}
+
+// That stretch of the log.
+fn stretch(log: &[u8], start: u32, size: u32) -> &[u8]
+    requires { ⌜ start + size ≤ length (now log) ⌝ }
+    ensures { λ r. ⌜ Stretch (log .entry) start size r ⌝ }
+{
+    let from = wide(start);
+    let end = from + wide(size);
+    &log[from..end]
 }

@@ -1,41 +1,58 @@
+-- `entry` meets its contract: an entry is there below the count that the log test answers, and such a log is accepted.
+-- Assumes nothing.
 use borrow.Author.Needs.{needs}
+use mathlib.Core.Path.{sym, ap}
+use Prim.Native.Nat.{_+_, _<_}
+use native.Mathlib.Omega.{arith}
+use lib.ListN.{length}
+use denote.Ref.{now}
+use Rattle.drawlog.specs.declared.layout.Log.{Log}
+use Rattle.drawlog.specs.declared.Tested.{Tested}
+use Rattle.drawlog.specs.laws.Log.{Reaches}
+use Rattle.drawlog.specs.laws.Refusal.{framed-reaches}
+use Rattle.drawlog.specs.Promise.{testedOf}
+use Rattle.drawlog.specs.laws.Promise.{listed-at, listed-none, Holding, holding}
 use Rattle.drawlog.proofs.entry.Statement.{statement}
 use Rattle.drawlog.proofs.entry.Tie as tie
-use Rattle.drawlog.proofs.entry.Reads as reads
-use Rattle.drawlog.proofs.entry.Lts as lts
-use Rattle.drawlog.proofs.layout.Log.id.Reads as id-reads
-use Rattle.drawlog.proofs.layout.Log.length.Reads as length-reads
-use Rattle.drawlog.proofs.layout.Log.of.Reads as of-reads
-use Rattle.drawlog.proofs.layout.Log.start.Reads as start-reads
-use Rattle.drawlog.proofs.test.Reads as test-reads
 
--- src/lib.rt:116:9
+-- below the count the log is accepted
+below : (c : tie.Else1) → let b = c .before .before .before .args in b .k < testedOf (now (b .log)) .count
+below c = omega (arith, ap (λ (t : Tested). t .count) (c .before .test .ensures))
+
+held : (c : tie.Else1) → Holding (now (c .before .before .before .args .log))
+held c = holding _ _ (below c)
+
+-- and entry k can be read once the trailer is
+reaches : (c : tie.After-of) → let b = c .before .before .before .before .args in Reaches (now (b .log)) (c .of .result) (b .k + 1)
+reaches c =
+    let h = held (c .before) in
+    framed-reaches (h .good .frame) (c .of .ensures) _
+    (omega (arith, below (c .before), h .number, ap (λ (t : Log). t .count) (c .of .ensures)))
+
 test-requires : tie.Need-test-requires
 test-requires c κs = search needs
 
--- src/lib.rt:121:9
 returns : tie.Need-returns
-returns c = ?
+returns c =
+    let f = c .before .test .ensures in
+    rw f (sym (listed-none _ _ (omega (arith, ap (λ (t : Tested). t .count) f))))
 
--- src/lib.rt:130:9
 of-requires : tie.Need-of-requires
-of-requires c κs = ?
+of-requires c κs = held c .good .frame .long
 
--- src/lib.rt:135:13
 id-requires : tie.Need-id-requires
-id-requires c κs = ?
+id-requires c κs = reaches c
 
--- src/lib.rt:136:16
 start-requires : tie.Need-start-requires
-start-requires c κs = ?
+start-requires c κs = reaches (c .before)
 
--- src/lib.rt:137:17
 length-requires : tie.Need-length-requires
-length-requires c κs = ?
+length-requires c κs = reaches (c .before .before)
 
--- src/lib.rt:113:1
 returns-2 : tie.Need-returns-2
-returns-2 c = ?
+returns-2 c =
+    let e = c .before .before .before .before in
+    rw (c .before .before .id .ensures, c .before .start .ensures, c .length .ensures, e .before .test .ensures) (sym (listed-at _ _ (below e)))
 
 pub entry-spec : {M : Type 1} → statement M
 entry-spec =

@@ -7,34 +7,41 @@ use Prim.Native.Nat.{ℕ, zero, suc, _+_, _-_, _*_, _%_, _≤_, _<_}
 use native.Mathlib.Numerals.{unary-clauses}
 use native.Mathlib.Omega.{arith}
 use borrow.Author.Tests.{eq-eqb, ne-eqb, lt-ltb, le-ltb, eqb-true, eqb-false, ltb-true, ltb-false, leb-true, not-true, not-false}
-use lib.Dec.{ltb, eqb}
+use lib.Dec.{ltb, eqb, lit<}
 use lib.ListN.{length}
 use Rattle.basics.specs.laws.Tests.{and-true-both, equal-or-not, le-or-lt}
 use Rattle.basics.specs.laws.Search.{least-is, least-before, least-passes}
 use Rattle.drawlog.specs.declared.layout.Log.{Log}
 use Rattle.drawlog.specs.declared.Cause.{Cause}
-use Rattle.drawlog.specs.Log.{entrySize, trailerSize, longest, most, drawSize, directory, count, marked, idAt, startAt, lengthAt}
+use Rattle.drawlog.specs.Log.{entrySize, trailerSize, longest, most, drawSize, directory, count, marked, logOf, idAt, startAt, lengthAt}
 use Rattle.drawlog.specs.Refusal.{logCause, rises, due, entryCause, firstBad, causeOf}
 use Rattle.drawlog.specs.laws.Log.{Reaches}
 
--- ENTRY 0, and an entry after another
-pub due-first : (s : List ℕ) (k : ℕ) → k ≡ 0 → due s k ≡ 0
+-- ENTRY 0, and the entry after another
+pub due-first : (s : List ℕ) → due s 0 ≡ 0
 unfolding due
-due-first s k e = rw e
+due-first s = refl
 
-pub due-later : (s : List ℕ) (k : ℕ) → (k ≡ 0 → ⊥) → due s k ≡ startAt s (k - 1) + lengthAt s (k - 1)
+pub due-next : (s : List ℕ) (k : ℕ) → due s (suc k) ≡ startAt s k + lengthAt s k
 unfolding due
-due-later s zero h = absurd (h refl)
-due-later s (suc k) h = simp unary-clauses
+due-next s k = refl
 
-pub rises-first : (s : List ℕ) (k : ℕ) → k ≡ 0 → rises s k ≡ true
+pub rises-first : (s : List ℕ) → rises s 0 ≡ true
 unfolding rises
-rises-first s k e = rw e
+rises-first s = refl
+
+pub rises-next : (s : List ℕ) (k : ℕ) → rises s (suc k) ≡ ltb (idAt s k) (idAt s (suc k))
+unfolding rises
+rises-next s k = refl
+
+-- the same of an entry k that is not the first, as the code sees it
+pub due-later : (s : List ℕ) (k : ℕ) → (k ≡ 0 → ⊥) → due s k ≡ startAt s (k - 1) + lengthAt s (k - 1)
+due-later s zero h = absurd (h refl)
+due-later s (suc k) h = simp unary-clauses (due-next s k)
 
 pub rises-later : (s : List ℕ) (k : ℕ) → (k ≡ 0 → ⊥) → rises s k ≡ ltb (idAt s (k - 1)) (idAt s k)
-unfolding rises
 rises-later s zero h = absurd (h refl)
-rises-later s (suc k) h = simp unary-clauses
+rises-later s (suc k) h = simp unary-clauses (rises-next s k)
 
 -- THE FIRST ENTRY that has a cause is what a search upward from entry 0 finds
 pub first-bad-is : {s : List ℕ} {t : Log} {n : ℕ} → Reaches s t n → (k : ℕ) → k ≤ t .count → ((j : ℕ) → j < k → entryCause s j ≡ 0)
@@ -47,7 +54,7 @@ first-bad-is {s} {t} r k h none stop =
     (⊎-elim (λ (q : k ≡ t .count). inl (omega arith)) (λ (q : entryCause s k ≡ 0 → ⊥). inr (ap not (ne-eqb (entryCause s k) 0 q))) stop)
 
 -- NO CAUSE: where the whole answer is 0, a test that would name a cause has failed, and the later ones answer 0
-passed : (test : Bool) (n rest : ℕ) → 1 ≤ n → cond test n rest ≡ 0 → (test ≡ false) × (rest ≡ 0)
+passed : (test : Bool) (n rest : ℕ) → 0 < n → cond test n rest ≡ 0 → (test ≡ false) × (rest ≡ 0)
 passed true n rest named h = absurd (omega arith)
 passed false n rest named h = (refl, h)
 
@@ -63,11 +70,11 @@ pub record Framed (s : List ℕ) : Type 0 where
 pub framed : (s : List ℕ) → logCause s ≡ 0 → Framed s
 unfolding logCause
 framed s h =
-    let no10 = passed _ 10 _ (omega arith) h in
-    let no11 = passed _ 11 _ (omega arith) (no10 .1) in
-    let no12 = passed _ 12 _ (omega arith) (no11 .1) in
-    let no13 = passed _ 13 _ (omega arith) (no12 .1) in
-    let no14 = passed _ 14 _ (omega arith) (no13 .1) in
+    let no10 = passed _ 10 _ (lit< tt) h in
+    let no11 = passed _ 11 _ (lit< tt) (no10 .1) in
+    let no12 = passed _ 12 _ (lit< tt) (no11 .1) in
+    let no13 = passed _ 13 _ (lit< tt) (no12 .1) in
+    let no14 = passed _ 14 _ (lit< tt) (no13 .1) in
     let counted = and-true-both _ _ (not-false _ (no13 .0)) in
     record {
       long = ltb-false _ _ (no10 .0);
@@ -78,6 +85,13 @@ framed s h =
       size = eqb-true _ _ (not-false _ (no14 .0));
     }
 
+-- then its directory lies within it
+pub framed-reaches : {s : List ℕ} → Framed s → {t : Log} → t ≡ logOf s → (n : ℕ) → n ≤ t .count → Reaches s t n
+framed-reaches {s} f {t} e n h =
+    let counted : t .count ≡ count s = ap (λ (u : Log). u .count) e in
+    let directed : t .directory ≡ directory s = ap (λ (u : Log). u .directory) e in
+    record { says = e; within = omega (arith, f .size) }
+
 -- an entry with none of the causes 15 to 17
 pub record Entered (s : List ℕ) (k : ℕ) : Type 0 where
   pub up : rises s k ≡ true
@@ -87,9 +101,9 @@ pub record Entered (s : List ℕ) (k : ℕ) : Type 0 where
 pub entered : (s : List ℕ) (k : ℕ) → entryCause s k ≡ 0 → Entered s k
 unfolding entryCause
 entered s k h =
-    let no15 = passed _ 15 _ (omega arith) h in
-    let no16 = passed _ 16 _ (omega arith) (no15 .1) in
-    let no17 = passed _ 17 _ (omega arith) (no16 .1) in
+    let no15 = passed _ 15 _ (lit< tt) h in
+    let no16 = passed _ 16 _ (lit< tt) (no15 .1) in
+    let no17 = passed _ 17 _ (lit< tt) (no16 .1) in
     record {
       up = not-false _ (no15 .0);
       joined = eqb-true _ _ (not-false _ (no16 .0));

@@ -10,7 +10,7 @@ use Rattle.drawlog.proofs.refusal.due.Statement.{statement}
 use Rattle.drawlog.proofs.refusal.due.Tie as tie
 
 returns : tie.Need-returns
-returns c = sym (due-first _ _ (c .if1 .taken))
+returns c = rw (c .if1 .taken) (sym (due-first _))
 
 sub-start : tie.Need-sub-start
 sub-start c = search needs

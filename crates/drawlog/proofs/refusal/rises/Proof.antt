@@ -7,7 +7,7 @@ use Rattle.drawlog.proofs.refusal.rises.Statement.{statement}
 use Rattle.drawlog.proofs.refusal.rises.Tie as tie
 
 returns : tie.Need-returns
-returns c = sym (rises-first _ _ (c .if1 .taken))
+returns c = rw (c .if1 .taken) (sym (rises-first _))
 
 sub-id : tie.Need-sub-id
 sub-id c = search needs
