@@ -35,7 +35,7 @@ cast-result : tie.Need-cast-result
 cast-result c = search needs
 
 returns : tie.Need-returns
-returns c = cc (ap (λ (t : Tested). t .count) (c .before .before .before .before .before .before .test .ensures))
+returns c = cc
 
 pub ahead-spec : {M : Type 1} → statement M
 ahead-spec =
