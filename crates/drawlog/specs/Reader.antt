@@ -2,10 +2,11 @@
 use mathlib.Core.Bool.{Bool, cond}
 use mathlib.Core.List.{List, [], _∷_}
 use Prim.Native.Nat.{ℕ, zero, suc, _+_, min, max}
+use lib.ListN.{take, drop}
 use denote.Ref.{RefT, now}
 use Rattle.drawlog.specs.declared.Cause.{Cause}
 use Rattle.drawlog.specs.declared.reader.Reader.{Reader}
-use Rattle.drawlog.specs.Promise.{testedOf, listedOf, hasEntry, BlockAt}
+use Rattle.drawlog.specs.Promise.{testedOf, foundOf, listedOf, hasEntry, BlockAt}
 
 -- made by the log test: before entry 0, with the refusal and its entry number
 abbrev pub opened : RefT (List ℕ) → Reader
@@ -31,11 +32,21 @@ ahead s k n = max k (min (k + n) (testedOf s .count))
 abbrev pub skipped : Reader → ℕ → Reader
 skipped r n = record { log = r .log; next = ahead (now (r .log)) (r .next) n; refusal = r .refusal; fault = r .fault }
 
+-- READING ALL
 -- start and length of the block before which it stands
 abbrev pub stands : Reader → ℕ × ℕ
 stands r = (listedOf (now (r .log)) (r .next) .start, listedOf (now (r .log)) (r .next) .length)
 
--- READING ALL: what n calls hand out, one block on after each, until none is left
+-- what n calls hand out, one block on after each, until none is left
 unfoldable pub handedOut : ℕ → Reader → List (ℕ × ℕ)
 handedOut zero r = []
 handedOut (suc n) r = let later = handedOut n (skipped r 1) in cond (left r) (stands r ∷ later) []
+
+-- what the lookup finds for the ids of n entries, from entry k on in directory order
+unfoldable pub lookedUp : List ℕ → ℕ → ℕ → List (ℕ × ℕ)
+lookedUp s zero k = []
+lookedUp s (suc n) k = let f = foundOf s (listedOf s k .id) in (f .start, f .length) ∷ lookedUp s n (suc k)
+
+-- the bytes of such a stretch
+abbrev pub cut : List ℕ → ℕ × ℕ → List ℕ
+cut s w = take (w .1) (drop (w .0) s)

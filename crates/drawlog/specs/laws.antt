@@ -7,3 +7,7 @@ pub mod Refusal
 pub mod Accepted
 -- the answers, by their cases, and their agreement
 pub mod Promise
+-- the reader
+pub mod Reader
+-- equal inputs, equal outcomes
+pub mod Determined
