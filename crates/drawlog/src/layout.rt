@@ -5,7 +5,6 @@ ghost use lib.ListN.{length};
 ghost use Rattle.drawlog.specs.Number.{number};
 ghost use Rattle.drawlog.specs.Log.{entrySize, trailerSize, logOf, idAt, startAt, lengthAt};
 ghost use Rattle.drawlog.specs.laws.Log.{Reaches};
-
 use basics::wide;
 
 // What a log's trailer says.

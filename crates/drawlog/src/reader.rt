@@ -2,9 +2,13 @@
 ghost use mathlib.Core.Path.{_≡_};
 ghost use Rattle.drawlog.specs.Promise.{hasEntry};
 ghost use Rattle.drawlog.specs.Reader.{opened, carried, left, Handed, ahead, skipped};
-
-use basics::{larger, smaller, wide};
-use crate::{block_at, entry, test, Cause};
+use crate::Cause;
+use crate::block_at;
+use crate::entry;
+use crate::test;
+use basics::larger;
+use basics::smaller;
+use basics::wide;
 
 // The log, the number of the next entry, the refusal and the entry at fault. No other crate can make one but by `open`.
 pub struct Reader<'a> {

@@ -5,10 +5,9 @@ ghost use lib.ListN.{length};
 ghost use Rattle.drawlog.specs.Log.{trailerSize, marked};
 ghost use Rattle.drawlog.specs.Refusal.{logCause, rises, due, entryCause, firstBad, causeOf};
 ghost use Rattle.drawlog.specs.laws.Log.{Reaches};
-
-use basics::wide;
 use crate::Cause;
 use crate::layout::Log;
+use basics::wide;
 
 // The first cause to refuse a log, with its entry number.
 pub(crate) fn first(log: &[u8]) -> Cause
@@ -27,10 +26,7 @@ pub(crate) fn first(log: &[u8]) -> Cause
     let k = first_bad(log, t);
     if k < count {
         let refusal = entry_cause(log, t, k);
-        return Cause {
-            refusal,
-            entry: k,
-        };
+        return Cause { refusal, entry: k };
     }
     if due(log, t, count) != wide(directory) {
         return Cause {

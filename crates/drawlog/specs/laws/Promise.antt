@@ -58,13 +58,23 @@ module _ (s : List ℕ) (a : causeOf s .refusal ≡ 0 → ⊥) where
 -- AN ENTRY is there exactly below the number of replicates
 module _ (s : List ℕ) (k : ℕ) where
   pub listed-at : k < testedOf s .count → listedOf s k ≡ record {
-    refusal = testedOf s .refusal; entry = testedOf s .entry; there = true; id = idAt s k; start = startAt s k; length = lengthAt s k;
+    refusal = testedOf s .refusal;
+    entry = testedOf s .entry;
+    there = true;
+    id = idAt s k;
+    start = startAt s k;
+    length = lengthAt s k;
   }
   unfolding listedOf
   listed-at h = rw (lt-ltb k (testedOf s .count) h)
 
   pub listed-none : testedOf s .count ≤ k → listedOf s k ≡ record {
-    refusal = testedOf s .refusal; entry = testedOf s .entry; there = false; id = 0; start = 0; length = 0;
+    refusal = testedOf s .refusal;
+    entry = testedOf s .entry;
+    there = false;
+    id = 0;
+    start = 0;
+    length = 0;
   }
   unfolding listedOf
   listed-none h = rw (le-ltb k (testedOf s .count) h)
