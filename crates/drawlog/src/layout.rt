@@ -1,4 +1,5 @@
 // The draw log's own type: its sizes, mark, limits and refusal numbers, and how its trailer and its entries are read.
+// Reader, writer and salvage use these and no other numbers.
 ghost use mathlib.Core.Path.{_≡_};
 ghost use Prim.Native.Nat.{_+_, _*_, _≤_, _<_};
 ghost use lib.ListN.{length};
@@ -17,29 +18,34 @@ impl Log {
     // A number takes 4 bytes, low byte first, and so does the mark.
     pub const WORD: usize = 4;
 
+    // How many values a byte has.
     pub const BYTE: u32 = 256;
 
-    // A directory entry: id, start and length.
+    // A directory entry: id, start, length.
     pub const ENTRY: usize = 12;
 
-    pub const START: usize = 4;
+    pub const START_AT: usize = 4;
 
-    pub const LENGTH: usize = 8;
+    pub const LENGTH_AT: usize = 8;
 
-    // The trailer: directory start, count and mark. No log is shorter.
+    // The trailer: directory start, count, mark. No log is shorter.
     pub const TRAILER: usize = 12;
 
-    pub const COUNT: usize = 4;
+    pub const COUNT_AT: usize = 4;
 
     pub const MARK_AT: usize = 8;
 
     pub const MARK: [u8; 4] = *b"DRAW";
 
-    // The limits: bytes of a log, replicates, and the bytes of a draw.
+    // The most bytes of a log.
     pub const LONGEST: usize = 65536;
+
+    // The fewest and the most replicates.
+    pub const FEWEST: u32 = 1;
 
     pub const MOST: u32 = 64;
 
+    // The bytes of a draw.
     pub const DRAW: u32 = 8;
 
     // The refusals, by document 01's table.
@@ -69,7 +75,7 @@ impl Log {
         let at = s.len() - Log::TRAILER;
         Log {
             directory: number(s, at),
-            count: number(s, at + Log::COUNT),
+            count: number(s, at + Log::COUNT_AT),
         }
     }
 
@@ -101,7 +107,7 @@ impl Log {
         requires { ⌜ Reaches (now s) self (k + 1) ⌝ }
         ensures { λ r. ⌜ r ≡ startAt (now (s .entry)) k ⌝ }
     {
-        number(s, self.place(k) + Log::START)
+        number(s, self.place(k) + Log::START_AT)
     }
 
     // How many bytes the block of entry k has.
@@ -109,7 +115,7 @@ impl Log {
         requires { ⌜ Reaches (now s) self (k + 1) ⌝ }
         ensures { λ r. ⌜ r ≡ lengthAt (now (s .entry)) k ⌝ }
     {
-        number(s, self.place(k) + Log::LENGTH)
+        number(s, self.place(k) + Log::LENGTH_AT)
     }
 }
 

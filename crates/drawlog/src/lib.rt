@@ -1,13 +1,23 @@
-// The draw log: its test, the lookup by id and by entry number, and the blocks themselves. Bytes are read where they lie, never copied.
+// The draw log: the blocks of up to 64 replicates back to back, a directory of them, and a trailer that points back.
+//
+// test       the first cause of refusal, or the number of replicates    module refusal
+// find       start and length of the block with this id
+// block      that block itself, being that stretch of the caller's log
+// entry      id, start and length of the entry with this number
+// block_at   that entry's block itself
+// Reader     a reader held open over one log                            module reader
+// Log        the log's sizes, mark, limits and refusal numbers          module layout
+//
+// Every call tests the log. Bytes are read where they lie, never copied.
 ghost use mathlib.Core.Path.{_≡_};
 ghost use Prim.Native.Nat.{_+_, _≤_};
 ghost use lib.ListN.{length};
 ghost use Rattle.drawlog.specs.Promise.{testedOf, seek, foundOf, listedOf, Stretch, BlockOf, BlockAt};
 ghost use Rattle.drawlog.specs.laws.Log.{Reaches};
 
-pub mod layout;
-pub mod reader;
-mod refusal;
+pub mod layout; // layout.rt: the log's own type
+pub mod reader; // reader.rt: the reader held open
+mod refusal; // refusal.rt: the causes of refusal, in their order
 
 use basics::wide;
 pub use layout::Log;

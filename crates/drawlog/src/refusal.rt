@@ -55,7 +55,7 @@ fn log_cause(s: &[u8]) -> u32
     }
     let t = Log::of(s);
     let count = t.count;
-    if count < 1 {
+    if count < Log::FEWEST {
         return Log::BAD_COUNT;
     }
     if Log::MOST < count {
@@ -105,15 +105,16 @@ fn entry_cause(s: &[u8], t: Log, k: u32) -> u32
     requires { ⌜ Reaches (now s) t (k + 1) ⌝ }
     ensures { λ r. ⌜ r ≡ entryCause (now (s .entry)) k ⌝ }
 {
+    let start = wide(t.start(s, k));
+    let joined = start == due(s, t, k);
+    let whole = t.length(s, k) % Log::DRAW == 0;
     if !rises(s, t, k) {
         return Log::NOT_RISING;
     }
-    let start = t.start(s, k);
-    if wide(start) != due(s, t, k) {
+    if !joined {
         return Log::NOT_JOINED;
     }
-    let length = t.length(s, k);
-    if length % Log::DRAW != 0 {
+    if !whole {
         return Log::NOT_WHOLE;
     }
     0

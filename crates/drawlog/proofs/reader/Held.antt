@@ -1,6 +1,5 @@
 -- The reader, as the walks of its functions see it: its type and machine value, and how it lends its slice to a function over plain parameters.
 -- Assumes nothing.
-use Prim.Native.Nat.{_^_}
 use mathlib.Core.Path.{_≡_}
 use mathlib.Core.List.{[], _∷_}
 use lib.ListN.{length}

@@ -7,8 +7,7 @@ use Rattle.drawlog.specs.declared.Cause.{Cause}
 use Rattle.drawlog.specs.Refusal.{causeOf}
 use Rattle.drawlog.specs.laws.Refusal.{accepted-is}
 use Rattle.drawlog.specs.laws.Promise.{tested-no}
-use mathlib.Core.Path.{_≡_, sym, ap, _∙_}
-use Rattle.drawlog.specs.laws.Promise.{tested-yes, tested-no}
+use Rattle.drawlog.specs.laws.Promise.{tested-yes}
 use Rattle.drawlog.proofs.test.Statement.{statement}
 use Rattle.drawlog.proofs.test.Tie as tie
 

@@ -1,11 +1,11 @@
 -- What an accepted log looks like: its blocks lie back to back from byte 0 to the directory, each within the log and of whole draws, and its ids rise strictly. Assumes nothing.
-use mathlib.Core.Path.{_≡_, refl, sym, ap, _∙_}
+use mathlib.Core.Path.{_≡_, sym, ap, _∙_}
 use mathlib.Core.List.{List}
 use Prim.Native.Nat.{ℕ, zero, suc, _+_, _-_, _≤_, _<_, _%_}
 use native.Mathlib.Omega.{arith}
 use borrow.Author.Tests.{ltb-true}
 use Rattle.drawlog.specs.Log.{directory, count, drawSize, idAt, startAt, lengthAt}
-use Rattle.drawlog.specs.Refusal.{rises, due}
+use Rattle.drawlog.specs.Refusal.{due}
 use Rattle.drawlog.specs.laws.Refusal.{Accepted, due-first, due-next, rises-next}
 
 module _ (s : List ℕ) (a : Accepted s) where

@@ -2,7 +2,7 @@
 use mathlib.Core.Path.{_≡_, sym, ap, _∙_}
 use mathlib.Core.Bool.{Bool}
 use mathlib.Core.List.{List}
-use Prim.Native.Nat.{ℕ, _+_}
+use Prim.Native.Nat.{ℕ}
 use denote.Ref.{RefT, now}
 use Rattle.drawlog.specs.declared.Cause.{Cause}
 use Rattle.drawlog.specs.declared.Tested.{Tested}

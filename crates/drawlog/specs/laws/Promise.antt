@@ -3,7 +3,7 @@ use mathlib.Core.Path.{_≡_, refl, sym, ap, _∙_}
 use mathlib.Core.Logic.{_⊎_, inl, inr, ⊎-elim}
 use mathlib.Core.Bool.{true, false, true≢false}
 use mathlib.Core.List.{List}
-use Prim.Native.Nat.{ℕ, suc, _+_, _-_, _≤_, _<_}
+use Prim.Native.Nat.{ℕ, suc, _+_, _≤_, _<_}
 use native.Mathlib.Omega.{arith}
 use borrow.Author.Tests.{eq-eqb, ne-eqb, eqb-true, lt-ltb, le-ltb}
 use lib.Dec.{eqb}
@@ -16,7 +16,7 @@ use Rattle.drawlog.specs.declared.Listed.{Listed}
 use Rattle.drawlog.specs.declared.Found.{Found}
 use Rattle.drawlog.specs.Log.{count, idAt, startAt, lengthAt}
 use Rattle.drawlog.specs.Refusal.{causeOf}
-use Rattle.drawlog.specs.Promise.{testedOf, seek, foundOf, hasEntry, listedOf}
+use Rattle.drawlog.specs.Promise.{testedOf, seek, foundOf, listedOf}
 use Rattle.drawlog.specs.laws.Log.{Reaches}
 use Rattle.drawlog.specs.laws.Refusal.{Accepted, accepted-is}
 use Rattle.drawlog.specs.laws.Accepted.{block-within, ids-rise}

@@ -1,9 +1,6 @@
 -- `reader::ahead` meets its contract: the sum is taken in 64 bits, and the greater of k and what is at most the count fits 32.
 -- Assumes nothing.
 use borrow.Author.Needs.{needs}
-use mathlib.Core.Path.{ap}
-use Rattle.basics.specs.Lists.{at}
-use Rattle.drawlog.specs.declared.Tested.{Tested}
 use Rattle.drawlog.proofs.reader.ahead.Statement.{statement}
 use Rattle.drawlog.proofs.reader.ahead.Tie as tie
 
@@ -35,7 +32,9 @@ cast-result : tie.Need-cast-result
 cast-result c = search needs
 
 returns : tie.Need-returns
-returns c = cc
+returns c =
+    let t = c .before .before .before .before .before .before in
+    rw (c .larger .ensures, c .before .wide4 .ensures, c .before .before .smaller .ensures, c .before .before .before .wide3 .ensures, c .before .before .before .before .wide2 .ensures, c .before .before .before .before .before .wide .ensures, t .test .ensures)
 
 pub ahead-spec : {M : Type 1} → statement M
 ahead-spec =

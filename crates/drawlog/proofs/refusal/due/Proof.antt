@@ -3,7 +3,6 @@
 use borrow.Author.Needs.{needs}
 use mathlib.Core.Path.{sym}
 use native.Mathlib.Omega.{arith}
-use Rattle.basics.specs.Lists.{at}
 use denote.Ref.{now}
 use Rattle.drawlog.specs.laws.Refusal.{due-first, due-later}
 use Rattle.drawlog.proofs.refusal.due.Statement.{statement}

@@ -1,34 +1,37 @@
--- `refusal::entry_cause` meets its contract: at each exit the tests before have failed, and its own holds.
+-- `refusal::entry_cause` meets its contract: its three tests are the definition's, and are looked at in the same order.
 -- Assumes nothing.
 use borrow.Author.Needs.{needs}
-use mathlib.Core.Path.{sym, _∙_}
-use Prim.Native.Nat.{_%_}
-use native.Mathlib.Omega.{arith}
-use borrow.Author.Tests.{eq-eqb, ne-eqb, not-true}
-use Rattle.basics.specs.Lists.{at}
-use Rattle.drawlog.specs.Refusal.{rises, entryCause}
-use mathlib.Core.Path.{_≡_, sym, _∙_}
-use mathlib.Core.Bool.{true}
-use borrow.Author.Tests.{eq-eqb, ne-eqb, not-true, not-false}
+use mathlib.Core.Path.{_≡_, sym, ap, _∙_}
+use mathlib.Core.List.{List}
+use Prim.Native.Nat.{ℕ, _%_}
+use borrow.Author.Tests.{not-true, not-false}
+use lib.Dec.{eqb}
+use lib.ListN.{length}
 use denote.Ref.{now}
-use Rattle.drawlog.specs.Log.{startAt, lengthAt}
+use Rattle.basics.specs.Lists.{at}
+use Rattle.drawlog.specs.Log.{drawSize, startAt, lengthAt}
 use Rattle.drawlog.specs.Refusal.{rises, due, entryCause}
 use Rattle.drawlog.proofs.refusal.entry_cause.Statement.{statement}
 use Rattle.drawlog.proofs.refusal.entry_cause.Tie as tie
 
--- what each test that failed tells of entry k
-up : (c : tie.Else1) → let b = c .before .before .before .args in rises (now (b .s)) (b .k) ≡ true
-up c = sym (c .before .rises .ensures) ∙ not-false _ (c .if1 .left)
+-- the tests, as the definition has them
+module _ (c : tie.After-rises) where
+  abbrev bytes : List ℕ
+  bytes = now (c .before .before .before .before .before .before .args .s)
 
-joined : (c : tie.Else2) → let b = c .before .before .before .before .before .before .before .args in startAt (now (b .s)) (b .k) ≡ due (now (b .s)) (b .k)
-joined c = omega arith
+  abbrev k : ℕ
+  k = c .before .before .before .before .before .before .args .k
 
-rises-requires : tie.Need-rises-requires
-rises-requires c κs = search needs
+  up : c .rises .result ≡ rises bytes k
+  up = c .rises .ensures
 
-returns : tie.Need-returns
-unfolding entryCause
-returns c = rw (sym (c .before .rises .ensures) ∙ not-true _ (c .if1 .taken))
+  joined : eqb (c .before .before .before .wide .result) (c .before .before .due .result) ≡ eqb (startAt bytes k) (due bytes k)
+  joined =
+      ap (λ (n : ℕ). eqb n (c .before .before .due .result)) (c .before .before .before .wide .ensures ∙ c .before .before .before .before .start .ensures)
+      ∙ ap (eqb (startAt bytes k)) (c .before .before .due .ensures)
+
+  whole : eqb (c .before .length .result % drawSize) 0 ≡ eqb (lengthAt bytes k % drawSize) 0
+  whole = ap (λ (n : ℕ). eqb (n % drawSize) 0) (c .before .length .ensures)
 
 start-requires : tie.Need-start-requires
 start-requires c κs = search needs
@@ -39,41 +42,44 @@ wide-requires c κs = search needs
 due-requires : tie.Need-due-requires
 due-requires c κs = search needs
 
+length-requires : tie.Need-length-requires
+length-requires c κs = search needs
+
+rises-requires : tie.Need-rises-requires
+rises-requires c κs = search needs
+
+returns : tie.Need-returns
+unfolding entryCause
+returns c = rw (sym (up (c .before)) ∙ not-true _ (c .if1 .taken))
+
 returns-2 : tie.Need-returns-2
 unfolding entryCause
 returns-2 c =
-    let test = c .before .before .before .before in
-    let b = test .before .before .before .args in
-    rw (up test, ne-eqb _ _ (λ (q : startAt (now (b .s)) (b .k) ≡ due (now (b .s)) (b .k)). c .if2 .taken (omega arith)))
-
-length-requires : tie.Need-length-requires
-length-requires c κs = search needs
+    let t = c .before .before in
+    rw (sym (up t) ∙ not-false _ (c .before .if1 .left), sym (joined t) ∙ not-true _ (c .if2 .taken))
 
 returns-3 : tie.Need-returns-3
 unfolding entryCause
 returns-3 c =
-    let test = c .before .before .before .before .before .before in
-    let b = test .before .before .before .args in
-    rw (up test, eq-eqb _ _ (joined (c .before .before)), ne-eqb _ _ (λ (q : lengthAt (now (b .s)) (b .k) % 8 ≡ 0). c .if3 .taken (omega arith)))
+    let t = c .before .before .before in
+    rw (sym (up t) ∙ not-false _ (c .before .before .if1 .left), sym (joined t) ∙ not-false _ (c .before .if2 .left), sym (whole t) ∙ not-true _ (c .if3 .taken))
 
 returns-4 : tie.Need-returns-4
 unfolding entryCause
 returns-4 c =
-    let test = c .before .before .before .before .before .before in
-    let b = test .before .before .before .args in
-    let whole : lengthAt (now (b .s)) (b .k) % 8 ≡ 0 = omega arith in
-    rw (up test, eq-eqb _ _ (joined (c .before .before)), eq-eqb _ _ whole)
+    let t = c .before .before .before in
+    rw (sym (up t) ∙ not-false _ (c .before .before .if1 .left), sym (joined t) ∙ not-false _ (c .before .if2 .left), sym (whole t) ∙ not-false _ (c .if3 .left))
 
 pub entry-cause-spec : {M : Type 1} → statement M
 entry-cause-spec =
     tie.close
     (tie.spec
-    rises-requires
-    returns
     start-requires
     wide-requires
     due-requires
-    returns-2
     length-requires
+    rises-requires
+    returns
+    returns-2
     returns-3
     returns-4)

@@ -10,7 +10,6 @@ use borrow.Author.Tests.{eq-eqb, ne-eqb, lt-ltb, le-ltb, le-leb, lt-leb, not-tru
 use lib.Dec.{ltb}
 use lib.ListN.{length}
 use denote.Ref.{now}
-use Rattle.basics.specs.Lists.{at}
 use Rattle.drawlog.specs.declared.layout.Log.{Log}
 use Rattle.drawlog.specs.Log.{directory, count, marked}
 use Rattle.drawlog.specs.Refusal.{logCause}

@@ -2,7 +2,6 @@
 -- Assumes nothing.
 use mathlib.Core.Path.{_∙_}
 use borrow.Author.Needs.{needs}
-use Rattle.basics.specs.Lists.{at}
 use Rattle.drawlog.specs.laws.Log.{id-read}
 use Rattle.drawlog.proofs.layout.Log.id.Statement.{statement}
 use Rattle.drawlog.proofs.layout.Log.id.Tie as tie

@@ -41,7 +41,6 @@ use denote.Triple.Walked.{says, Stays, stay-none-slice, walkOf, goes-none-slice,
 use denote.Exit.{yes}
 use denote.Triple.Clauses.{ensured, lasts}
 use Rattle.drawlog.specs.Promise.{testedOf}
-use Rattle.drawlog.specs.Reader.{opened}
 use Rattle.drawlog.specs.declared.reader.Reader.{Reader}
 use Rattle.drawlog.specs.declared.Tested.{Tested}
 use Rattle.drawlog.proofs.reader.Reader as T
