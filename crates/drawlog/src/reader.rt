@@ -56,7 +56,7 @@ impl<'a> Reader<'a> {
         block_at(self.log, self.next)
     }
 
-    // The reader that many blocks on, one after each block handed out. Past the last it stays.
+    // The reader that many blocks on: one after each block that was read. Past the last it stays.
     pub fn skip(self, blocks: u32) -> Reader<'a>
         ensures { λ r. ⌜ r ≡ skipped (self .entry) blocks ⌝ }
     {

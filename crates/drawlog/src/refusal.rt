@@ -105,10 +105,10 @@ fn entry_cause(s: &[u8], t: Log, k: u32) -> u32
     requires { ⌜ Reaches (now s) t (k + 1) ⌝ }
     ensures { λ r. ⌜ r ≡ entryCause (now (s .entry)) k ⌝ }
 {
-    let start = wide(t.start(s, k));
-    let joined = start == due(s, t, k);
+    let up = rises(s, t, k);
+    let joined = wide(t.start(s, k)) == due(s, t, k);
     let whole = t.length(s, k) % Log::DRAW == 0;
-    if !rises(s, t, k) {
+    if !up {
         return Log::NOT_RISING;
     }
     if !joined {

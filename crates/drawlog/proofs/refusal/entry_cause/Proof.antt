@@ -8,30 +8,32 @@ use borrow.Author.Tests.{not-true, not-false}
 use lib.Dec.{eqb}
 use lib.ListN.{length}
 use denote.Ref.{now}
-use Rattle.basics.specs.Lists.{at}
 use Rattle.drawlog.specs.Log.{drawSize, startAt, lengthAt}
 use Rattle.drawlog.specs.Refusal.{rises, due, entryCause}
 use Rattle.drawlog.proofs.refusal.entry_cause.Statement.{statement}
 use Rattle.drawlog.proofs.refusal.entry_cause.Tie as tie
 
 -- the tests, as the definition has them
-module _ (c : tie.After-rises) where
+module _ (c : tie.After-length) where
   abbrev bytes : List ℕ
   bytes = now (c .before .before .before .before .before .before .args .s)
 
   abbrev k : ℕ
   k = c .before .before .before .before .before .before .args .k
 
-  up : c .rises .result ≡ rises bytes k
-  up = c .rises .ensures
+  up : c .before .before .before .before .rises .result ≡ rises bytes k
+  up = c .before .before .before .before .rises .ensures
 
-  joined : eqb (c .before .before .before .wide .result) (c .before .before .due .result) ≡ eqb (startAt bytes k) (due bytes k)
+  joined : eqb (c .before .before .wide .result) (c .before .due .result) ≡ eqb (startAt bytes k) (due bytes k)
   joined =
-      ap (λ (n : ℕ). eqb n (c .before .before .due .result)) (c .before .before .before .wide .ensures ∙ c .before .before .before .before .start .ensures)
-      ∙ ap (eqb (startAt bytes k)) (c .before .before .due .ensures)
+      ap (λ (n : ℕ). eqb n (c .before .due .result)) (c .before .before .wide .ensures ∙ c .before .before .before .start .ensures)
+      ∙ ap (eqb (startAt bytes k)) (c .before .due .ensures)
 
-  whole : eqb (c .before .length .result % drawSize) 0 ≡ eqb (lengthAt bytes k % drawSize) 0
-  whole = ap (λ (n : ℕ). eqb (n % drawSize) 0) (c .before .length .ensures)
+  whole : eqb (c .length .result % drawSize) 0 ≡ eqb (lengthAt bytes k % drawSize) 0
+  whole = ap (λ (n : ℕ). eqb (n % drawSize) 0) (c .length .ensures)
+
+rises-requires : tie.Need-rises-requires
+rises-requires c κs = search needs
 
 start-requires : tie.Need-start-requires
 start-requires c κs = search needs
@@ -44,9 +46,6 @@ due-requires c κs = search needs
 
 length-requires : tie.Need-length-requires
 length-requires c κs = search needs
-
-rises-requires : tie.Need-rises-requires
-rises-requires c κs = search needs
 
 returns : tie.Need-returns
 unfolding entryCause
@@ -74,11 +73,11 @@ pub entry-cause-spec : {M : Type 1} → statement M
 entry-cause-spec =
     tie.close
     (tie.spec
+    rises-requires
     start-requires
     wide-requires
     due-requires
     length-requires
-    rises-requires
     returns
     returns-2
     returns-3
