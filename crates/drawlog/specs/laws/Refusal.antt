@@ -6,7 +6,7 @@ use mathlib.Core.List.{List}
 use Prim.Native.Nat.{ℕ, zero, suc, _+_, _-_, _*_, _%_, _≤_, _<_}
 use native.Mathlib.Numerals.{unary-clauses}
 use native.Mathlib.Omega.{arith}
-use borrow.Author.Tests.{eq-eqb, ne-eqb, lt-ltb, le-ltb, eqb-true, eqb-false, ltb-false, leb-true, not-true, not-false}
+use borrow.Author.Tests.{eq-eqb, ne-eqb, lt-ltb, le-ltb, eqb-true, eqb-false, ltb-false, leb-true, le-leb, not-true, not-false}
 use lib.Dec.{ltb, eqb, lit<}
 use lib.ListN.{length}
 use Rattle.basics.specs.laws.Tests.{and-true-both, equal-or-not, le-or-lt}
@@ -160,3 +160,22 @@ accepted-is s h = ⊎-elim (λ (a : logCause s ≡ 0). framed-log a) (λ (a : lo
         (equal-or-not (due s (count s)) (directory s)))
         (λ (b : firstBad s < count s). absurd (bad-one s b (sym (name (cause-entry s a b)) ∙ h)))
         (le-or-lt (count s) (firstBad s))
+
+-- AND CONVERSELY: a log with such a frame, such entries and such an end is accepted
+framed-none : (s : List ℕ) → Framed s → logCause s ≡ 0
+unfolding logCause
+framed-none s f =
+    rw (le-ltb _ _ (f .long), le-ltb _ _ (f .short), f .signed, le-leb _ _ (f .some), le-leb _ _ (f .few), eq-eqb _ _ (f .size))
+
+entered-none : (s : List ℕ) (k : ℕ) → Entered s k → entryCause s k ≡ 0
+unfolding entryCause
+entered-none s k e = rw (e .up, eq-eqb _ _ (e .joined), eq-eqb _ _ (e .whole))
+
+pub is-accepted : (s : List ℕ) → Framed s → ((k : ℕ) → k < count s → Entered s k) → due s (count s) ≡ directory s → Accepted s
+unfolding firstBad
+is-accepted s f each ends =
+    let none : firstBad s ≡ count s =
+    least-is (λ k. not (eqb (entryCause s k) 0)) (count s) 0 (count s) (omega arith) (omega arith)
+    (λ k u v. ap not (eq-eqb (entryCause s k) 0 (entered-none s k (each k v))))
+    (inl (omega arith)) in
+    record { frame = f; each = each; ends = ends; cause = cause-none s (framed-none s f) (omega arith) ends }
