@@ -1,4 +1,5 @@
--- The reader, as the walks of its functions see it: its type and machine value, and how it lends its slice to a function over plain parameters.
+-- What the walks of the reader's functions share: the struct's type and machine value, and how it lends its slice.
+-- A walk follows a function statement by statement. A comment in brackets lists what is held at that point, nearest first: _0 is where the result goes, _1 where the first parameter stands, and so on.
 -- Assumes nothing.
 use mathlib.Core.Path.{_≡_}
 use mathlib.Core.List.{[], _∷_}
@@ -51,7 +52,7 @@ module _ (κ : Lft) (d : Reader) where
   Own = B (κ, tt) .own d (mach ∷ [])
 
 module _ {M : Type 1} (𝓤 : URA M) (H : Heap 𝓤) (A : Atoms 𝓤) (W : Given 𝓤 H A) (κ : Lft) (q : Share) (d : Reader) where
-  -- the struct is Copy: what it owns is had twice. One copy is kept whole, and of the other what the slice owns goes, beside the lifetime's token, to a callee that asks P
+  -- the reader can be copied: one copy is kept whole, and the other's slice goes, with the lifetime's token, to a callee that asks P
   pub lends : (P : SProp 𝓤) → ent 𝓤 (⋆ 𝓤 H A (‵ (ShrSlice (named 0) κ u8 .own (d .log) (v κ d ∷ [])) ∷ (‵ (flft κ q) ⊛ ‵ ftrue) ∷ [])) P
       → ent 𝓤 (⋆ 𝓤 H A (‵ (Own κ d) ∷ (‵ (flft κ q) ⊛ ‵ ftrue) ∷ [])) (sep 𝓤 P (sem 𝓤 H A (Own κ d)))
   lends P asked =

@@ -1,6 +1,5 @@
--- `reader::read` meets its contract: a walk of its MIR, by hand. A `Reader` that one call returns is held in a local and passed to the next, twice. All that the proof knows of the three callees is that each meets its contract.
--- In a local of a body MIR erases the lifetime of the struct's type, so each value is shown to have the type at `erased`.
--- Assumes nothing.
+-- `reader::read` meets its contract, by a walk: the reader that one call returns stands in a local and is given to the next, and the three promises are joined.
+-- A local's type names no lifetime (`erased`), so each reader is shown to have that type too. Assumes nothing.
 use mathlib.Core.Path.{_≡_, refl, ap, subst, _∙_}
 use Prim.Native.Nat.{ℕ, _<_, _^_}
 use mathlib.Core.List.{List, [], _∷_}
@@ -62,7 +61,7 @@ abbrev stayed : Stays (rd.ended .signature .params) (rd.ended .kept)
 stayed = (stay-none-slice (0 ∷ []) tt (plain (λ _. u8)) yes, (stay-none (λ _. u32) yes, tt))
 
 module _ {M : Type 1} (𝓤 : URA M) (H : Heap 𝓤) (A : Atoms 𝓤) (mem : Memory → SProp 𝓤) (run : Routine → Fun 𝓤) where
-  -- the contracts that the proof cites
+  -- the callees' contracts
   abbrev Open : Contract 𝓤
   Open = tripleOf 𝓤 H A op.signature (op.spec 𝓤 H A mem run)
 
@@ -73,7 +72,7 @@ module _ {M : Type 1} (𝓤 : URA M) (H : Heap 𝓤) (A : Atoms 𝓤) (mem : Mem
   Blk = tripleOf 𝓤 H A blk.signature (blk.spec 𝓤 H A mem run)
 
 module _ {M : Type 1} (𝓤 : URA M) (H : Heap 𝓤) (A : Atoms 𝓤) (W : Given 𝓤 H A) (mem : Memory → SProp 𝓤) (run : Routine → Fun 𝓤) (κ : Lft) (q : Share) (s : RefT (List ℕ)) (k : ℕ) (ok : k < 2 ^ 32) where
-  -- the machine value that s has
+  -- the slice's machine value
   abbrev v : Val
   v = sliceVal (s .ptr) (length (s .now))
 
@@ -91,7 +90,7 @@ module _ {M : Type 1} (𝓤 : URA M) (H : Heap 𝓤) (A : Atoms 𝓤) (W : Given
   abbrev Own : Fml
   Own = ShrSlice (named 0) κ u8 .own s (v ∷ [])
 
-  -- the call of `open`: what it is passed, what it asks, and what is known of its result
+  -- the call of `open`: what it is given, and what it promises
   abbrev to-open : Open 𝓤 H A mem run .Ghost
   to-open = (((κ, tt), (q, tt), tt, (s, tt), (v ∷ [], tt)), tt)
 
@@ -104,7 +103,7 @@ module _ {M : Type 1} (𝓤 : URA M) (H : Heap 𝓤) (A : Atoms 𝓤) (W : Given
   open-said : (r : Reader) → ent 𝓤 (ensured 𝓤 H A op.ended (op.clauses 𝓤 H A mem run) (κ, tt) (s, tt) tt r) (fact 𝓤 (r ≡ opened s))
   open-said r = exE 𝓤 _ (λ ws. snd∗ 𝓤 (sem 𝓤 H A (lasts op.ended (κ, tt) (s, tt) ws)) (fact 𝓤 (r ≡ opened s)))
 
-  -- the call of `skip`, at the struct r with the machine value u
+  -- the call of `skip`, over the reader r with the machine value u
   abbrev to-skip : Reader → Val → Skip 𝓤 H A mem run .Ghost
   to-skip r u = (((κ, tt), (q, tt), tt, (r, (k, tt)), (u ∷ [], (vint w32 k ∷ [], tt))), tt)
 

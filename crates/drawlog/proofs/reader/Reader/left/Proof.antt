@@ -1,6 +1,5 @@
--- `reader::Reader::left` meets its contract: a walk of its MIR, by hand. The struct is taken apart, and `left_at` is called on the slice and the number. All that the proof knows of `left_at` is that it meets its contract.
--- The struct is Copy: what it owns is had twice, one copy is kept whole for the exit, and of the other what src owns goes to the callee, beside the lifetime's token, which comes back.
--- Assumes nothing.
+-- `reader::Reader::left` meets its contract, by a walk: slice and entry number are read from the struct and given to `left_at`, whose promise is the answer.
+-- The reader itself is kept, and stands unchanged at the exit. Assumes nothing.
 use mathlib.Core.Path.{_≡_, refl}
 use Prim.Native.Nat.{_<_, _^_}
 use mathlib.Core.List.{[], _∷_}
@@ -54,7 +53,7 @@ abbrev stayed : Stays (left.ended .signature .params) (left.ended .kept)
 stayed = (stay-none B yes, tt)
 
 module _ {M : Type 1} (𝓤 : URA M) (H : Heap 𝓤) (A : Atoms 𝓤) (mem : Memory → SProp 𝓤) (run : Routine → Fun 𝓤) where
-  -- the contract that the proof cites
+  -- the callee's contract
   abbrev LeftAt : Contract 𝓤
   LeftAt = tripleOf 𝓤 H A step.signature (step.spec 𝓤 H A mem run)
 
@@ -65,7 +64,7 @@ module _ {M : Type 1} (𝓤 : URA M) (H : Heap 𝓤) (A : Atoms 𝓤) (W : Given
   abbrev Post : Val → SProp 𝓤
   Post = walkOf 𝓤 H A left.ended stayed (left.clauses 𝓤 H A mem run) .post (((κ, tt), (q, tt), tt, (d, tt), (mach κ d ∷ [], tt)), tt)
 
-  -- what the callee is passed
+  -- what the callee is given
   abbrev passed : Vals step.signature (κ, tt)
   passed = (v κ d ∷ [], (vint w32 (d .next) ∷ [], tt))
 
@@ -82,7 +81,7 @@ module _ {M : Type 1} (𝓤 : URA M) (H : Heap 𝓤) (A : Atoms 𝓤) (W : Given
       qed W ((‵ (flft κ q) ⊛ ‵ ftrue) ∷ ‵ (owns (B (κ, tt) ∷ []) (d, tt) (mach κ d ∷ [], tt)) ∷ []) ∵
       move ! (1 ∷ []) $ fsplit ! $ move ! (1 ∷ []) $ drop ! $ by ! (lends 𝓤 H A W κ q d (LeftAt 𝓤 H A mem run .pre to) (asked fits))
 
-  -- of the callee's `ensured`, the clause alone: it has no `&mut`, so what is said of last values is dropped
+  -- what the callee promises of its answer
   said : (r : Bool) → ent 𝓤 (ensured 𝓤 H A step.ended (step.clauses 𝓤 H A mem run) (κ, tt) (d .log, (d .next, tt)) tt r) (fact 𝓤 (r ≡ found))
   said r = exE 𝓤 _ (λ ws. snd∗ 𝓤 (sem 𝓤 H A (lasts step.ended (κ, tt) (d .log, (d .next, tt)) ws)) (fact 𝓤 (r ≡ found)))
 

@@ -1,6 +1,5 @@
--- `reader::Reader::open` meets its contract: a walk of its MIR, by hand. The covered log test is called on the slice, and a `Reader` is made of the slice, 0 and two fields of the answer.
--- A `&[u8]` is Copy, so what it owns is had three times: for the callee, for log at exit, and inside the result. The answer's machine value is written out, by what its type tells, before its fields are read.
--- Assumes nothing.
+-- `reader::Reader::open` meets its contract, by a walk: the log is tested, and a reader is made of the slice, entry number 0 and two fields of the answer.
+-- The slice serves three times: for the test, in the reader, and as the caller's own at the exit. Assumes nothing.
 use mathlib.Core.Path.{_≡_, refl, ap}
 use Prim.Native.Nat.{ℕ, _<_, _^_}
 use mathlib.Core.List.{List, [], _∷_}
@@ -60,7 +59,7 @@ abbrev stayed : Stays (op.ended .signature .params) (op.ended .kept)
 stayed = (stay-none-slice (0 ∷ []) tt (plain (λ _. u8)) yes, tt)
 
 module _ {M : Type 1} (𝓤 : URA M) (H : Heap 𝓤) (A : Atoms 𝓤) (mem : Memory → SProp 𝓤) (run : Routine → Fun 𝓤) where
-  -- the contract that the proof cites
+  -- the callee's contract
   abbrev Test : Contract 𝓤
   Test = tripleOf 𝓤 H A test.signature (test.spec 𝓤 H A mem run)
 
@@ -68,7 +67,7 @@ module _ {M : Type 1} (𝓤 : URA M) (H : Heap 𝓤) (A : Atoms 𝓤) (W : Given
   abbrev α : NamedLft
   α = namedLft 1 0 tt (κ, tt)
 
-  -- the machine value that s has
+  -- the slice's machine value
   abbrev v : Val
   v = sliceVal (s .ptr) (length (s .now))
 
@@ -81,7 +80,7 @@ module _ {M : Type 1} (𝓤 : URA M) (H : Heap 𝓤) (A : Atoms 𝓤) (W : Given
   abbrev Own : Fml
   Own = ShrSlice (named 0) κ u8 .own s (v ∷ [])
 
-  -- the call of `test`: what it is passed, what it asks, and what is known of its result
+  -- the call of `test`: what it is given, and what it promises
   abbrev to-test : Test 𝓤 H A mem run .Ghost
   to-test = (((κ, tt), (q, tt), tt, (s, tt), (v ∷ [], tt)), tt)
 
@@ -99,7 +98,7 @@ module _ {M : Type 1} (𝓤 : URA M) (H : Heap 𝓤) (A : Atoms 𝓤) (W : Given
       qed W ((‵ (flft κ q) ⊛ ‵ ftrue) ∷ ‵ Own ∷ []) ∵
       suffices ! _ (ends-at 𝓤 H A op.ended stayed (op.clauses 𝓤 H A mem run) W (((κ, tt), (q, tt), tt, (s, tt), (v ∷ [], tt)), tt) (T′.lowered (made t)) (made t) (tt, tt) (tt, tt)) $ says ! (ap made e) $
       frame ! $ use1 W (‵ Own ⊛ ‵ Own) (shr-slice-copy 𝓤 H A W (named 0) κ u8 .twice s (v ∷ [])) $ split ! $ nothing ! $ move ! (1 ∷ 0 ∷ []) $ fjoin ! $ frame ! $
-      -- [what log owns]: what the fields own together, of it and of the numbers' facts, is what the struct owns
+      -- the reader owns what its slice owns, and its three numbers
       nothing ! $ owned ! u32 (Is u32) (uint-makes 𝓤 H A W w32) (t .entry) _ (refl, g) $ fjoin ! $ owned ! u32 (Is u32) (uint-makes 𝓤 H A W w32) (t .refusal) _ (refl, f) $ fjoin ! $
       owned ! u32 (Is u32) (uint-makes 𝓤 H A W w32) 0 _ (refl, lit< tt) $ fjoin ! $ move ! (1 ∷ 0 ∷ []) $ fjoin ! $ by ! (own-shut 𝓤 H A W (T.the-type α) (T′.the-laws α) (s, (0, (t .refusal, (t .entry, tt)))))
 

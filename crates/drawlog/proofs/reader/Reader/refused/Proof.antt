@@ -1,6 +1,5 @@
--- `reader::Reader::refused` meets its contract: a walk of its MIR, by hand. Two numbers are read from fields of the struct, and a plain struct is made of them.
--- That each number fits its type is in the struct's typing, at the field's place; what a plain struct owns is made of these facts.
--- Assumes nothing.
+-- `reader::Reader::refused` meets its contract, by a walk: two fields are read, and a `Cause` is made of them.
+-- That both numbers fit 32 bits is known from the struct's type. Assumes nothing.
 use mathlib.Core.Path.{refl}
 use mathlib.Core.List.{[], _∷_}
 use lib.Dec.{T as Holds}

@@ -1,5 +1,4 @@
--- `reader::Reader::skip` meets its contract: a walk of its MIR, by hand. The struct is taken apart, and `ahead` is called on the slice and the number. All that the proof knows of `ahead` is that it meets its contract.
--- The struct is Copy: what it owns is had twice, one copy is kept whole for the exit, and of the other what src owns goes to the callee, beside the lifetime's token, which comes back.
+-- `reader::Reader::skip` meets its contract, by a walk: `ahead` says the new entry number, and a reader is made of it and of the old one's other fields.
 -- Assumes nothing.
 use mathlib.Core.Path.{_≡_, refl, ap}
 use Prim.Native.Nat.{ℕ, _<_, _^_}
@@ -56,7 +55,7 @@ abbrev stayed : Stays (skip.ended .signature .params) (skip.ended .kept)
 stayed = (stay-none B yes, (stay-none (λ _. u32) yes, tt))
 
 module _ {M : Type 1} (𝓤 : URA M) (H : Heap 𝓤) (A : Atoms 𝓤) (mem : Memory → SProp 𝓤) (run : Routine → Fun 𝓤) where
-  -- the contract that the proof cites
+  -- the callee's contract
   abbrev Ahead : Contract 𝓤
   Ahead = tripleOf 𝓤 H A step.signature (step.spec 𝓤 H A mem run)
 
@@ -71,7 +70,7 @@ module _ {M : Type 1} (𝓤 : URA M) (H : Heap 𝓤) (A : Atoms 𝓤) (W : Given
   abbrev Post : Val → SProp 𝓤
   Post = walkOf 𝓤 H A skip.ended stayed (skip.clauses 𝓤 H A mem run) .post (((κ, tt), (q, tt), tt, (d, (n, tt)), at), tt)
 
-  -- what the callee is passed
+  -- what the callee is given
   abbrev passed : Vals step.signature (κ, tt)
   passed = (v κ d ∷ [], (vint w32 (d .next) ∷ [], (vint w32 n ∷ [], tt)))
 
@@ -89,7 +88,7 @@ module _ {M : Type 1} (𝓤 : URA M) (H : Heap 𝓤) (A : Atoms 𝓤) (W : Given
       qed W ((‵ (flft κ q) ⊛ ‵ ftrue) ∷ ‵ (owns (B (κ, tt) ∷ u32 ∷ []) (d, (n, tt)) at) ∷ []) ∵
       move ! (1 ∷ []) $ fsplit ! $ move ! (1 ∷ []) $ drop ! $ by ! (lends 𝓤 H A W κ q d (Ahead 𝓤 H A mem run .pre to) (asked fits))
 
-  -- of the callee's `ensured`, the clause alone: it has no `&mut`, so what is said of last values is dropped
+  -- what the callee promises of its answer
   said : (r : ℕ) → ent 𝓤 (ensured 𝓤 H A step.ended (step.clauses 𝓤 H A mem run) (κ, tt) (d .log, (d .next, (n, tt))) tt r) (fact 𝓤 (r ≡ found))
   said r = exE 𝓤 _ (λ ws. snd∗ 𝓤 (sem 𝓤 H A (lasts step.ended (κ, tt) (d .log, (d .next, (n, tt))) ws)) (fact 𝓤 (r ≡ found)))
 
@@ -102,7 +101,7 @@ module _ {M : Type 1} (𝓤 : URA M) (H : Heap 𝓤) (A : Atoms 𝓤) (W : Given
       suffices ! _ (ends-at 𝓤 H A skip.ended stayed (skip.clauses 𝓤 H A mem run) W (((κ, tt), (q, tt), tt, (d, (n, tt)), at), tt) (T′.lowered (made r)) (made r) (tt, (tt, tt)) (tt, (tt, tt))) $ says ! (ap made e) $
       frame ! $ use1 W (‵ (Own κ d) ⊛ ‵ (Own κ d)) (LL.copy (D κ) (T′.the-copy (namedLft 1 0 tt (κ, tt))) 𝓤 H A W .twice d (mach κ d ∷ [])) $ split ! $
       nothing ! $ owned ! u32 (Is u32) (uint-makes 𝓤 H A W w32) n _ (refl, ok) $ fjoin ! $ move ! (1 ∷ 0 ∷ []) $ fjoin ! $ frame ! $
-      -- [what the struct owns]: the number's facts take the place of next's
+      -- the new number takes the place of next
       owned ! u32 (Is u32) (uint-makes 𝓤 H A W w32) r _ (refl, g) $ move ! (1 ∷ 0 ∷ []) $ by ! (own-put 𝓤 H A W (D κ) (L κ) 1 (vd κ d) r (mach κ d))
 
   module _ (C : Calls 𝓤 H) (Λ : Loops 𝓤 H) (fm : FmC 𝓤 H (W .laws) C) (known : Triple 𝓤 (C #drawlog·ahead) (Ahead 𝓤 H A mem run)) where
