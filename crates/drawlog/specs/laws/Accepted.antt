@@ -1,9 +1,12 @@
 -- What an accepted log looks like: its blocks lie back to back from byte 0 to the directory, each within the log and of whole draws, and its ids rise strictly. Assumes nothing.
 use mathlib.Core.Path.{_≡_, sym, ap, _∙_}
+use mathlib.Core.Logic.{⊎-elim}
 use mathlib.Core.List.{List}
 use Prim.Native.Nat.{ℕ, zero, suc, _+_, _-_, _≤_, _<_, _%_}
+use native.Mathlib.Nat.{eq-or-lt-of-le}
 use native.Mathlib.Omega.{arith}
 use borrow.Author.Tests.{ltb-true}
+use Rattle.basics.specs.laws.Tests.{le-or-lt}
 use Rattle.drawlog.specs.Log.{directory, count, drawSize, idAt, startAt, lengthAt}
 use Rattle.drawlog.specs.Refusal.{due}
 use Rattle.drawlog.specs.laws.Refusal.{Accepted, due-first, due-next, rises-next}
@@ -49,3 +52,11 @@ module _ (s : List ℕ) (a : Accepted s) where
 
   pub ids-rise : (j k : ℕ) → j < k → k < count s → idAt s j < idAt s k
   ids-rise j k l h = let e : j + suc (k - suc j) ≡ k = omega arith in rw e at (rise (k - suc j) j (omega arith))
+
+  -- so no two entries have one id
+  pub one-entry : (j k : ℕ) → j < count s → k < count s → idAt s j ≡ idAt s k → j ≡ k
+  one-entry j k u h same =
+      ⊎-elim
+      (λ (l : j ≤ k). ⊎-elim (λ (e : j ≡ k). e) (λ (m : j < k). absurd (omega (arith, ids-rise j k m h))) (eq-or-lt-of-le l))
+      (λ (l : k < j). absurd (omega (arith, ids-rise k j l u)))
+      (le-or-lt j k)
