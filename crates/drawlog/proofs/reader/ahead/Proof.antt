@@ -1,6 +1,7 @@
 -- `reader::ahead` meets its contract: the sum is taken in 64 bits, and the greater of k and what is at most the count fits 32.
 -- Assumes nothing.
 use borrow.Author.Needs.{needs}
+use native.Mathlib.Omega.{arith}
 use Rattle.drawlog.proofs.reader.ahead.Statement.{statement}
 use Rattle.drawlog.proofs.reader.ahead.Tie as tie
 
@@ -14,7 +15,7 @@ wide-requires-2 : tie.Need-wide-requires-2
 wide-requires-2 c κs = search needs
 
 add-smaller : tie.Need-add-smaller
-add-smaller c = search needs
+add-smaller c = omega arith
 
 wide-requires-3 : tie.Need-wide-requires-3
 wide-requires-3 c κs = search needs
@@ -29,7 +30,7 @@ larger-requires : tie.Need-larger-requires
 larger-requires c κs = search needs
 
 cast-result : tie.Need-cast-result
-cast-result c = search needs
+cast-result c = omega arith
 
 returns : tie.Need-returns
 returns c =

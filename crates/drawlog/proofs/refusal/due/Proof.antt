@@ -12,7 +12,7 @@ returns : tie.Need-returns
 returns c = rw (c .if1 .taken) (sym (due-first _))
 
 sub-start : tie.Need-sub-start
-sub-start c = search needs
+sub-start c = omega arith
 
 start-requires : tie.Need-start-requires
 start-requires c κs = search needs
@@ -21,7 +21,7 @@ wide-requires : tie.Need-wide-requires
 wide-requires c κs = search needs
 
 sub-length : tie.Need-sub-length
-sub-length c = search needs
+sub-length c = omega arith
 
 length-requires : tie.Need-length-requires
 length-requires c κs = search needs
@@ -30,7 +30,7 @@ wide-requires-2 : tie.Need-wide-requires-2
 wide-requires-2 c κs = search needs
 
 add-result : tie.Need-add-result
-add-result c = search needs
+add-result c = omega arith
 
 returns-2 : tie.Need-returns-2
 returns-2 c =

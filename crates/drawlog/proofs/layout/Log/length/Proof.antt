@@ -2,6 +2,7 @@
 -- Assumes nothing.
 use mathlib.Core.Path.{_∙_}
 use borrow.Author.Needs.{needs}
+use native.Mathlib.Omega.{arith}
 use Rattle.drawlog.specs.laws.Log.{length-read}
 use Rattle.drawlog.proofs.layout.Log.length.Statement.{statement}
 use Rattle.drawlog.proofs.layout.Log.length.Tie as tie
@@ -10,7 +11,7 @@ place-requires : tie.Need-place-requires
 place-requires c κs = search needs
 
 add-number : tie.Need-add-number
-add-number c = search needs
+add-number c = omega arith
 
 number-requires : tie.Need-number-requires
 number-requires c κs = search needs
