@@ -1,7 +1,9 @@
 -- A lent room after a call. Assumes nothing.
 use mathlib.Core.List.{List, _++_}
-use Prim.Native.Nat.{ℕ, zero, suc}
+use mathlib.Core.Path.{_≡_}
+use Prim.Native.Nat.{ℕ, zero, suc, _≤_, _<_}
 use lib.ListN.{length, drop}
+use Rattle.basics.specs.Lists.{at}
 
 -- the room d with the list t in front, and the rest as it was
 abbrev pub front : List ℕ → List ℕ → List ℕ
@@ -11,3 +13,8 @@ front t d = t ++ drop (length t) d
 abbrev pub roomAfter : ℕ → List ℕ → List ℕ → List ℕ
 roomAfter zero t d = front t d
 roomAfter (suc r) t d = d
+
+-- the room d has the list t in front
+pub record Begins (t d : List ℕ) : Type 0 where
+  pub reaches : length t ≤ length d
+  pub entry : (k : ℕ) → k < length t → at d k ≡ at t k

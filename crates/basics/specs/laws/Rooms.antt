@@ -1,30 +1,45 @@
 -- Laws of rooms: after a call, and while a loop fills one. Assumes nothing.
 use mathlib.Core.Path.{_≡_, refl, sym, ap, _∙_}
 use mathlib.Core.List.{List, [], _∷_, _++_, append-assoc}
-use Prim.Native.Nat.{ℕ, zero, suc, _+_, _≤_, _<_}
+use Prim.Native.Nat.{ℕ, zero, suc, _+_, _-_, _≤_, _<_}
 use native.Mathlib.Numerals.{add-one}
 use native.Mathlib.Omega.{arith}
 use lib.ListN.{length, getD, drop, set, length-append, length-drop, List·getD-append}
-use lib.Seq.{drop-cons, drop-at, set-at}
+use lib.Seq.{drop-cons, drop-at, drop-drop, set-at, set-append-left}
 use Rattle.basics.specs.Lists.{at, table}
-use Rattle.basics.specs.Rooms.{front, roomAfter}
-use Rattle.basics.specs.laws.Lists.{length-table, at-table}
+use Rattle.basics.specs.Rooms.{front, roomAfter, Begins}
+use Rattle.basics.specs.laws.Lists.{length-table, at-table, table-ext, set-table}
 
 -- a refusal leaves the room
 pub room-kept : (r : ℕ) (t d : List ℕ) → (r ≡ 0 → ⊥) → roomAfter r t d ≡ d
 room-kept zero t d h = absurd (h refl)
 room-kept (suc r) t d h = refl
 
--- a room with a list in front: as long as it was, with the list's entries first, and the rest as it was
+-- a room with a list in front: as long as it was, that list first, and the rest as it was
 module _ (t d : List ℕ) (h : length t ≤ length d) where
   pub length-front : length (front t d) ≡ length d
   length-front = simp (length-append, length-drop) (omega arith)
 
-pub at-front : (t d : List ℕ) (k : ℕ) → k < length t → at (front t d) k ≡ at t k
-at-front t d k h = List·getD-append t (drop (length t) d) 0 k h
+  pub begins-front : {d′ : List ℕ} → d′ ≡ front t d → Begins t d′
+  begins-front {d′} e =
+      record {
+        reaches = omega (arith, ap length e, length-front);
+        entry = λ k l. ap (λ (r : List ℕ). at r k) e ∙ List·getD-append t (drop (length t) d) 0 k l;
+      }
 
-pub drop-front : (t d : List ℕ) → drop (length t) (front t d) ≡ drop (length t) d
-drop-front t d = drop-at t (drop (length t) d) (length t) refl
+pub drop-front : (t d : List ℕ) (n : ℕ) → length t ≤ n → drop n (front t d) ≡ drop n d
+drop-front t d n l =
+    let q : length t + (n - length t) ≡ n = omega arith in
+    rw q
+    at (sym (drop-drop (n - length t) (length t) (front t d)) ∙ ap (drop (n - length t)) (drop-at t (drop (length t) d) (length t) refl) ∙ drop-drop (n - length t) (length t) d)
+
+-- a longer list written over a shorter one
+pub front-then : (t u d d₁ : List ℕ) {d₂ : List ℕ} → d₁ ≡ front t d → d₂ ≡ front u d₁ → length t ≤ length u → d₂ ≡ front u d
+front-then t u d d₁ p q l = q ∙ ap (λ (r : List ℕ). u ++ r) (ap (drop (length u)) p ∙ drop-front t d (length u) l)
+
+-- the same list again changes nothing
+pub front-again : (t d : List ℕ) {d₁ : List ℕ} → d₁ ≡ front t d → d₁ ≡ front t d₁
+front-again t d {d₁} p = p ∙ sym (front-then t t d d₁ p refl (omega arith))
 
 -- A LOOP THAT FILLS: d is the room d₀ with the first i entries of f in front
 pub record Filled (f : ℕ → ℕ) (d₀ : List ℕ) (i : ℕ) (d : List ℕ) : Type 0 where
@@ -49,3 +64,27 @@ filled-length {f} {d₀} {d} {i} g h = ap length (g .is) ∙ length-front (table
 
 pub filled-all : {f : ℕ → ℕ} {d₀ d : List ℕ} {i n : ℕ} → Filled f d₀ i d → i ≡ n → d ≡ front (table n f) d₀
 filled-all {f} {d₀} {d} {i} {n} g e = rw e at (g .is)
+
+-- only the first i values of f matter
+pub filled-ext : {f g : ℕ → ℕ} {d₀ d : List ℕ} {i : ℕ} → Filled f d₀ i d → ((k : ℕ) → k < i → f k ≡ g k) → Filled g d₀ i d
+filled-ext {f} {g} {d₀} {d} {i} p h = record { is = p .is ∙ ap (λ (t : List ℕ). front t d₀) (table-ext i f g h) }
+
+pub filled-at : {f : ℕ → ℕ} {d₀ d : List ℕ} {i : ℕ} → Filled f d₀ i d → (k : ℕ) → k < i → at d k ≡ f k
+filled-at {f} {d₀} {d} {i} g k l =
+    ap (λ (r : List ℕ). at r k) (g .is) ∙ List·getD-append (table i f) (drop (length (table i f)) d₀) 0 k (omega (arith, length-table i f)) ∙ at-table i f k l
+
+-- one entry is written anew
+pub filled-set : {f g : ℕ → ℕ} {d₀ d : List ℕ} {i b v : ℕ} → Filled f d₀ i d → b < i → g b ≡ v → ((k : ℕ) → k < i → (k ≡ b → ⊥) → f k ≡ g k)
+    → Filled g d₀ i (set d b v)
+filled-set {f} {g} {d₀} {d} {i} {b} {v} p l e other =
+    record {
+      is =
+          ap (λ (r : List ℕ). set r b v) (p .is)
+          ∙ set-append-left (table i f) (drop (length (table i f)) d₀) b v (omega (arith, length-table i f))
+          ∙ rw (set-table i f g b v l e other, length-table i f, length-table i g);
+    }
+
+-- a room filled on from what fills another
+pub filled-then : {f g : ℕ → ℕ} {d₀ d d′ : List ℕ} {i n : ℕ} → Filled f d₀ i d → Filled g d n d′ → i ≤ n → Filled g d₀ n d′
+filled-then {f} {g} {d₀} {d} {d′} {i} {n} p q l =
+    record { is = front-then (table i f) (table n g) d₀ d (p .is) (q .is) (omega (arith, length-table i f, length-table n g)) }

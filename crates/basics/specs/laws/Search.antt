@@ -62,6 +62,12 @@ pub least-first : (p : ℕ → Bool) (n s t : ℕ) → s ≤ t → p t ≡ true 
 least-first p n s t l q =
     ⊎-elim (λ h. h) (λ (h : t < least p n s). absurd (true≢false (sym q ∙ least-before p n s t l h))) (le-or-lt (least p n s) t)
 
+-- two tests that agree from s on have the same least
+pub least-ext : (p q : ℕ → Bool) (n s : ℕ) → ((j : ℕ) → s ≤ j → p j ≡ q j) → least p n s ≡ least q n s
+unfolding least
+least-ext p q zero s h = refl
+least-ext p q (suc n) s h = λ k. cond (h s (omega arith) k) s (least-ext p q n (suc s) (λ j l. h j (omega arith)) k)
+
 -- THE GREATEST
 pub greatest-is : (p : ℕ → Bool) (n k : ℕ) → k ≤ n → p k ≡ true → ((j : ℕ) → k < j → j ≤ n → p j ≡ false) → greatest p n ≡ k
 unfolding greatest

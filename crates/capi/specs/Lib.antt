@@ -1,0 +1,2 @@
+-- What C sees of an answer.
+pub mod Seen

@@ -1,0 +1,95 @@
+-- Demands 2 and 3: theorems over the definitions, and what they say of the answers of the calls. Assumes nothing.
+use mathlib.Core.Path.{_≡_, refl, sym, ap, _∙_}
+use mathlib.Core.List.{List, map}
+use Prim.Native.Nat.{ℕ, zero, suc, _+_, _-_, _*_, _≤_, min, zero-le}
+use native.Mathlib.Omega.{arith}
+use lib.ListN.{length, length-map}
+use Rattle.scans.specs.declared.Answer.{Answer}
+use Rattle.scans.specs.Trace.{Window, comparisons, positions, visit}
+use Rattle.scans.specs.Plain.{plain}
+use Rattle.scans.specs.Remember.{remembering}
+use Rattle.scans.specs.Occurrences.{occurrences}
+use Rattle.scans.specs.Refusal.{refusalOf}
+use Rattle.scans.specs.Promise.{answerOf, reported, Plainly, Rememberingly}
+use Rattle.scans.specs.laws.Refusal.{accepted}
+use Rattle.scans.specs.laws.Ending.{Sound}
+use Rattle.scans.specs.laws.Free.{free-le}
+use Rattle.scans.specs.laws.Visits.{Fresh, same-visits, no-more, bounded}
+use Rattle.scans.specs.laws.Occurrences.{all-found, same-positions}
+
+-- DEMAND 3. For 1 ≤ m ≤ n the remembering scan visits the same windows in the same order as the plain one, each with the same end, never makes more
+-- comparisons, and at most 2n − m + 1.
+pub record Demand3 (x y : List ℕ) : Type 0 where
+  pub same-windows : map visit (remembering x y) ≡ map visit (plain x y)
+  pub never-more : comparisons (remembering x y) ≤ comparisons (plain x y)
+  pub bound : comparisons (remembering x y) ≤ 2 * length y - length x + 1
+
+-- the first two parts hold for every stream
+visits : (x y : List ℕ) → 1 ≤ length x → map visit (remembering x y) ≡ map visit (plain x y)
+unfolding remembering plain
+visits x y some = same-visits x y some (suc (length y)) 0 (λ e. 0) (λ e. zero-le) (λ e l. refl)
+
+pub demand3 : (x y : List ℕ) → 1 ≤ length x → length x ≤ length y → Demand3 x y
+unfolding remembering plain
+demand3 x y some fits =
+    let sound : Sound x y (λ e. 0) = λ e. zero-le in
+    let fresh : Fresh x 0 (λ e. 0) = λ e l. refl in
+    record {
+      same-windows = visits x y some;
+      never-more = no-more x y some (suc (length y)) 0 (λ e. 0) sound fresh;
+      bound = omega (arith, bounded x y some (suc (length y)) 0 (λ e. 0) sound fresh, free-le 0 (λ e. 0) (0 + length x) 0);
+    }
+
+-- DEMAND 2, of the positions: both scans report all the places where the probe equals the stream, overlapping ones too, ascending.
+pub record Demand2 (x y : List ℕ) : Type 0 where
+  pub plainly : positions (plain x y) ≡ occurrences x y
+  pub remembered : positions (remembering x y) ≡ occurrences x y
+
+pub demand2 : (x y : List ℕ) → 1 ≤ length x → Demand2 x y
+demand2 x y some =
+    record { plainly = all-found x y some; remembered = same-positions (remembering x y) (plain x y) (visits x y some) ∙ all-found x y some }
+
+-- OF THE CALLS: what two accepted searches of the same stream, at least as long as the probe, tell of each other
+pub record Agreed (x y d : List ℕ) (p q : Answer) (d₁ d₂ : List ℕ) : Type 0 where
+  pub total : q .occurrences ≡ length (occurrences x y)
+  pub same-total : p .occurrences ≡ q .occurrences
+  pub places : d₂ ≡ reported (occurrences x y) d
+  pub same-places : d₁ ≡ d₂
+  pub same-windows : q .windows ≡ p .windows
+  pub never-more : q .comparisons ≤ p .comparisons
+  pub bound : q .comparisons ≤ 2 * length y - length x + 1
+
+-- an answer without a refusal has the numbers of its trace
+taken : {r : Answer} (k : ℕ) (ws : List Window) (n : ℕ) → r ≡ answerOf k ws n → r .refusal ≡ 0 → (k ≡ 0) × (r ≡ answerOf 0 ws n)
+unfolding answerOf
+taken k ws n e z =
+    let q : k ≡ 0 = sym (shown k) ∙ ap (λ (r : Answer). r .refusal) (sym e) ∙ z in
+    (q, e ∙ ap (λ (k : ℕ). answerOf k ws n) q)
+  where
+    shown : (k : ℕ) → answerOf k ws n .refusal ≡ k
+    shown zero = refl
+    shown (suc k) = refl
+
+pub agreed : {x y s h e d : List ℕ} {p q : Answer} {s₁ h₁ d₁ s₂ h₂ e₂ d₂ : List ℕ} → Plainly x y s h d p s₁ h₁ d₁ → Rememberingly x y s h e d q s₂ h₂ e₂ d₂
+    → p .refusal ≡ 0 → q .refusal ≡ 0 → length x ≤ length y → Agreed x y d p q d₁ d₂
+unfolding answerOf
+agreed {x} {y} {s} {h} {e} {d} {p} {q} {s₁} {h₁} {d₁} {s₂} {h₂} {e₂} {d₂} u v zp zq fits =
+    let a = taken (refusalOf (length x) (length y) (min (length s) (length h))) (plain x y) (length d) (u .answer) zp in
+    let b = taken (refusalOf (length x) (length y) (min (length s) (min (length h) (length e)))) (remembering x y) (length d) (v .answer) zq in
+    let some : 1 ≤ length x = accepted (length x) (length y) (min (length s) (length h)) refl (a .0) .some in
+    let D : Demand3 x y = demand3 x y some fits in
+    let F : Demand2 x y = demand2 x y some in
+    let w : length (remembering x y) ≡ length (plain x y) =
+    sym (length-map (remembering x y) visit) ∙ ap length (D .same-windows) ∙ length-map (plain x y) visit in
+    let P : d₁ ≡ reported (occurrences x y) d = rw zp at (u .places) ∙ ap (λ (l : List ℕ). reported l d) (F .plainly) in
+    let Q : d₂ ≡ reported (occurrences x y) d = rw zq at (v .places) ∙ ap (λ (l : List ℕ). reported l d) (F .remembered) in
+    let total : q .occurrences ≡ length (occurrences x y) = ap (λ (r : Answer). r .occurrences) (b .1) ∙ ap length (F .remembered) in
+    record {
+      total = total;
+      same-total = ap (λ (r : Answer). r .occurrences) (a .1) ∙ ap length (F .plainly) ∙ sym total;
+      places = Q;
+      same-places = P ∙ sym Q;
+      same-windows = ap (λ (r : Answer). r .windows) (b .1) ∙ w ∙ sym (ap (λ (r : Answer). r .windows) (a .1));
+      never-more = omega (arith, D .never-more, ap (λ (r : Answer). r .comparisons) (a .1), ap (λ (r : Answer). r .comparisons) (b .1));
+      bound = omega (arith, D .bound, ap (λ (r : Answer). r .comparisons) (b .1));
+    }

@@ -1,0 +1,9 @@
+-- Words of the private functions' contracts.
+-- where a text position stands in the memory room
+pub mod Stamp
+-- a window's end as a number; what the window functions take and give
+pub mod Window
+-- what is counted of the occurrences while a scan runs
+pub mod Hits
+-- what a whole search gives, before it is put into an answer
+pub mod Search

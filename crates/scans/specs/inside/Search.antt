@@ -1,0 +1,56 @@
+-- What a whole search gives, before it is put into an answer. Assumes nothing.
+use mathlib.Core.Path.{_≡_}
+use mathlib.Core.List.{List}
+use Prim.Native.Nat.{ℕ, zero, suc, min}
+use lib.ListN.{length, replicate}
+use Rattle.basics.specs.Rooms.{roomAfter}
+use Rattle.tables.specs.Suffix.{suffixTable}
+use Rattle.tables.specs.Shift.{shiftTable}
+use Rattle.tables.specs.Occurrence.{occurrenceTable}
+use Rattle.scans.specs.declared.Answer.{Answer}
+use Rattle.scans.specs.declared.Tally.{Tally}
+use Rattle.scans.specs.declared.Prepared.{Prepared}
+use Rattle.scans.specs.declared.Searched.{Searched}
+use Rattle.scans.specs.Trace.{Window, positions}
+use Rattle.scans.specs.Remember.{remembering}
+use Rattle.scans.specs.Refusal.{refusalOf}
+use Rattle.scans.specs.Promise.{reportedAfter}
+use Rattle.scans.specs.inside.Hits.{runOf}
+
+-- a refusal, beside which every number is 0
+abbrev pub refusedBy : ℕ → Searched
+refusedBy r = record { refusal = r; run = record { hits = record { all = 0; number = 0; first = 0 }; windows = 0; comparisons = 0 } }
+
+-- a search with this refusal (0: none), step and trace
+abbrev pub searchedOf : ℕ → ℕ → List Window → Searched
+searchedOf zero d ws = record { refusal = 0; run = runOf d ws }
+searchedOf (suc r) d ws = refusedBy (suc r)
+
+-- the answers made of it; the position room has n entries
+abbrev pub answerBy : Searched → ℕ → Answer
+answerBy s n =
+    record {
+      refusal = s .refusal;
+      occurrences = s .run .hits .all;
+      written = min (s .run .hits .all) n;
+      windows = s .run .windows;
+      comparisons = s .run .comparisons;
+    }
+
+abbrev pub tallyBy : Searched → Tally
+tallyBy s = record { refusal = s .refusal; number = s .run .hits .number; first = s .run .hits .first }
+
+-- the remembering search, of the probe x, the stream y, the rooms s, h, e, p and the step d
+pub record Searching (x y s h e p : List ℕ) (d : ℕ) (r : Searched) (s′ h′ e′ p′ : List ℕ) : Type 0 where
+  pub answer : r ≡ searchedOf (refusalOf (length x) (length y) (min (length s) (min (length h) (length e)))) d (remembering x y)
+  pub suffix : s′ ≡ roomAfter (r .refusal) (suffixTable x) s
+  pub shift : h′ ≡ roomAfter (r .refusal) (shiftTable x) h
+  pub memory : e′ ≡ roomAfter (r .refusal) (replicate (length x) 0) e
+  pub places : p′ ≡ reportedAfter (r .refusal) (positions (remembering x y)) p
+
+-- the causes looked for and the tables written, of the probe x, a stream of n bytes, and work rooms of which the smallest has k entries
+pub record Preparing (x : List ℕ) (n k : ℕ) (s h : List ℕ) (r : Prepared) (s′ h′ : List ℕ) : Type 0 where
+  pub refusal : r .refusal ≡ refusalOf (length x) n k
+  pub suffix : s′ ≡ roomAfter (r .refusal) (suffixTable x) s
+  pub shift : h′ ≡ roomAfter (r .refusal) (shiftTable x) h
+  pub byte : r .refusal ≡ 0 → r .occ ≡ occurrenceTable x

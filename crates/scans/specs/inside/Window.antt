@@ -1,0 +1,77 @@
+-- What the window functions take and give. A window's end is a number: 0 where it matched, i + 1 where it stopped at i. Assumes nothing.
+use mathlib.Core.Path.{_≡_}
+use mathlib.Core.List.{List}
+use Prim.Native.Nat.{ℕ, zero, suc, _+_, _-_, _≤_, _<_}
+use lib.ListN.{length, drop}
+use Rattle.basics.specs.Lists.{at}
+use Rattle.basics.specs.Rooms.{Begins}
+use Rattle.tables.specs.Suffix.{suffixTable}
+use Rattle.tables.specs.Shift.{shiftTable}
+use Rattle.tables.specs.Occurrence.{occurrenceTable}
+use Rattle.scans.specs.declared.windows.Seen.{Seen}
+use Rattle.scans.specs.declared.windows.Passed.{Passed}
+use Rattle.scans.specs.Trace.{End, matched, stopped, Pass}
+use Rattle.scans.specs.Remember.{remember}
+use Rattle.scans.specs.Refusal.{longest, largest}
+use Rattle.scans.specs.inside.Stamp.{recalled}
+
+abbrev pub leftOf : End → ℕ
+leftOf matched = 0
+leftOf (stopped i) = suc i
+
+abbrev pub endOf : ℕ → End
+endOf zero = matched
+endOf (suc i) = stopped i
+
+-- a pass that began after c comparisons
+abbrev pub seenOf : Pass → ℕ → Seen
+seenOf p c = record { left = leftOf (p .end); count = c + p .comps }
+
+abbrev pub passedOf : Pass → ℕ → Passed
+passedOf p c = record { left = leftOf (p .end); kept = p .kept; count = c + p .comps }
+
+-- sizes within the limits
+pub record Sizes (x y : List ℕ) : Type 0 where
+  pub some : 1 ≤ length x
+  pub short : length x ≤ longest
+  pub small : length y ≤ largest
+
+-- the window at j lies in the stream
+pub record Lies (x y : List ℕ) (j : ℕ) : Type 0 where
+  pub sizes : Sizes x y
+  pub within : j + length x ≤ length y
+
+-- Bytes compared from the last index down to low. Those from r.left on are equal; where r.left is above low, the bytes before it are not.
+pub record Ahead (x y : List ℕ) (j low c : ℕ) (r : Seen) : Type 0 where
+  pub from : low ≤ r .left
+  pub to : r .left ≤ length x
+  pub equal : (t : ℕ) → r .left ≤ t → t < length x → at y (j + t) ≡ at x t
+  pub stops : low < r .left → at y (j + (r .left - 1)) ≡ at x (r .left - 1) → ⊥
+  pub all : r .left ≤ low → r .count + r .left ≡ c + length x
+  pub some : low < r .left → r .count + r .left ≡ c + length x + 1
+
+-- the shift room and the occurrence table are those of x
+pub record Moving (x shift occ : List ℕ) : Type 0 where
+  pub begins : Begins (shiftTable x) shift
+  pub byte : occ ≡ occurrenceTable x
+
+-- the suffix room has its table, and the memory room is long enough
+pub record Recalling (x suffix mem : List ℕ) : Type 0 where
+  pub begins : Begins (suffixTable x) suffix
+  pub memory : length x ≤ length mem
+
+-- the room mem says from j on what R says, and R says nothing from top on
+pub record Memory (m : ℕ) (mem : List ℕ) (j top : ℕ) (R : ℕ → ℕ) : Type 0 where
+  pub says : (h : ℕ) → j ≤ h → recalled mem m h ≡ R h
+  pub quiet : (h : ℕ) → top ≤ h → R h ≡ 0
+
+-- the memory room says nothing from top on, as far as a window at j looks
+pub record Quiet (m : ℕ) (mem : List ℕ) (j top : ℕ) : Type 0 where
+  pub under : top ≤ j + m
+  pub quiet : (h : ℕ) → j ≤ h → top ≤ h → recalled mem m h ≡ 0
+
+-- v remembered at the end of the window at j
+pub record Kept (m : ℕ) (mem : List ℕ) (j top v : ℕ) (mem′ : List ℕ) (top′ : ℕ) : Type 0 where
+  pub memory : (R : ℕ → ℕ) → Memory m mem j top R → Memory m mem′ j top′ (remember R (j + m - 1) v)
+  pub rest : drop m mem′ ≡ drop m mem
+  pub under : top′ ≤ j + m

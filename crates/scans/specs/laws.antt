@@ -1,0 +1,20 @@
+-- THE STEPS of the definitions, one law for each case.
+pub mod Move
+pub mod Plain
+pub mod Remember
+pub mod Refusal
+-- THE MATHEMATICS: common endings, one window, the potential, and the whole scan.
+pub mod Run
+pub mod Ending
+pub mod Free
+pub mod Visits
+-- every occurrence is reported, and nothing else
+pub mod Occurrences
+-- THE CODE'S LOOPS: what they keep while they run.
+pub mod Hits
+pub mod Going
+pub mod Stamps
+pub mod Passes
+pub mod Loops
+-- from what a search gives to what its call promises
+pub mod Search

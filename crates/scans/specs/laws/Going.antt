@@ -1,0 +1,72 @@
+-- The windows that are done and those that are to come: what both loops keep. Assumes nothing.
+use mathlib.Core.Path.{_≡_, refl, sym, ap, _∙_}
+use mathlib.Core.List.{List, [], _∷_, _++_, append-assoc, append-nil}
+use Prim.Native.Nat.{ℕ, _+_}
+use native.Mathlib.Omega.{arith}
+use lib.ListN.{length, length-append}
+use Rattle.scans.specs.declared.hits.Hits.{Hits}
+use Rattle.scans.specs.Trace.{End, matched, stopped, Pass, Window, window, comparisons, found, positions}
+use Rattle.scans.specs.Promise.{reported}
+use Rattle.scans.specs.inside.Hits.{hitsOf, runOf}
+use Rattle.scans.specs.laws.Hits.{Noted}
+
+-- a trace with one window more
+length-more : (ws : List Window) (w : Window) → length (ws ++ (w ∷ [])) ≡ length ws + 1
+length-more ws w = length-append ws (w ∷ [])
+
+comparisons-more : (ws : List Window) (w : Window) → comparisons (ws ++ (w ∷ [])) ≡ comparisons ws + w .comps
+unfolding comparisons
+comparisons-more [] w = omega arith
+comparisons-more (v ∷ ws) w = omega (arith, comparisons-more ws w)
+
+found-more : (j : ℕ) (e : End) (l k : List ℕ) → found j e l ++ k ≡ found j e (l ++ k)
+found-more j matched l k = refl
+found-more j (stopped i) l k = refl
+
+positions-more : (ws : List Window) (w : Window) → positions (ws ++ (w ∷ [])) ≡ positions ws ++ found (w .start) (w .end) []
+unfolding positions
+positions-more [] w = refl
+positions-more (v ∷ ws) w = ap (found (v .start) (v .end)) (positions-more ws w) ∙ sym (found-more (v .start) (v .end) (positions ws) (found (w .start) (w .end) []))
+
+-- Of the windows of a whole trace those that are to come are `rest`: ps are the positions of those done, w their number and c their comparisons
+pub record Going (whole rest : List Window) (ps : List ℕ) (w c : ℕ) : Type 0 where
+  pub done : List Window
+  pub split : done ++ rest ≡ whole
+  pub positions : ps ≡ positions done
+  pub windows : w ≡ length done
+  pub count : c ≡ comparisons done
+
+pub going-none : (whole : List Window) → Going whole whole [] 0 0
+unfolding positions comparisons
+going-none whole = record { done = []; split = refl; positions = refl; windows = refl; count = refl }
+
+-- the next window is done
+pub going-more : {whole rest rest′ : List Window} {ps : List ℕ} {w c c′ : ℕ} (j : ℕ) (p : Pass) → Going whole rest ps w c
+    → rest ≡ window j p ∷ rest′ → c′ ≡ c + p .comps → Going whole rest′ (ps ++ found j (p .end) []) (w + 1) c′
+going-more {whole} {rest} {rest′} {ps} {w} {c} {c′} j p g e k =
+    let v : Window = window j p in
+    record {
+      done = g .done ++ (v ∷ []);
+      split = append-assoc (g .done) (v ∷ []) rest′ ∙ ap (λ (l : List Window). g .done ++ l) (sym e) ∙ g .split;
+      positions = ap (λ (l : List ℕ). l ++ found j (p .end) []) (g .positions) ∙ sym (positions-more (g .done) v);
+      windows = omega (arith, g .windows, length-more (g .done) v);
+      count = omega (arith, g .count, comparisons-more (g .done) v);
+    }
+
+-- all windows are done
+module _ {whole rest : List Window} {ps : List ℕ} {w c : ℕ} (g : Going whole rest ps w c) (e : rest ≡ []) where
+  all-done : g .done ≡ whole
+  all-done = sym (append-nil (g .done)) ∙ ap (λ (l : List Window). g .done ++ l) (sym e) ∙ g .split
+
+  going-places : ps ≡ positions whole
+  going-places = g .positions ∙ ap positions all-done
+
+  pub going-run : {step : ℕ} {d₀ d : List ℕ} {h : Hits} → Noted step ps d₀ d h → record { hits = h; windows = w; comparisons = c } ≡ runOf step whole
+  going-run {step} {d₀} {d} {h} n =
+      let hits : h ≡ hitsOf step (positions whole) = n .hits ∙ ap (hitsOf step) going-places in
+      let windows : w ≡ length whole = g .windows ∙ ap length all-done in
+      let count : c ≡ comparisons whole = g .count ∙ ap comparisons all-done in
+      λ k. record { hits = hits k; windows = windows k; comparisons = count k }
+
+  pub going-room : {step : ℕ} {d₀ d : List ℕ} {h : Hits} → Noted step ps d₀ d h → d ≡ reported (positions whole) d₀
+  going-room {step} {d₀} n = n .room ∙ ap (λ (l : List ℕ). reported l d₀) going-places

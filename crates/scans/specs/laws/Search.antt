@@ -1,0 +1,141 @@
+-- From what a search gives to what its call promises. Assumes nothing.
+use mathlib.Core.Path.{_≡_, refl, ap, _∙_}
+use mathlib.Core.List.{List}
+use Prim.Native.Nat.{ℕ, zero, suc, _≤_, min}
+use native.Mathlib.Omega.{arith}
+use lib.ListN.{length, replicate}
+use Rattle.basics.specs.Lists.{at}
+use Rattle.basics.specs.Rooms.{front, roomAfter, Begins}
+use Rattle.basics.specs.laws.Rooms.{begins-front}
+use Rattle.tables.specs.Suffix.{suffixTable}
+use Rattle.tables.specs.Shift.{shiftTable}
+use Rattle.tables.specs.laws.Suffix.{length-suffixTable}
+use Rattle.tables.specs.laws.Shift.{length-shiftTable}
+use Rattle.scans.specs.declared.Answer.{Answer}
+use Rattle.scans.specs.declared.Tally.{Tally}
+use Rattle.scans.specs.declared.Searched.{Searched}
+use Rattle.scans.specs.declared.loops.Run.{Run}
+use Rattle.scans.specs.Trace.{Window, comparisons, positions}
+use Rattle.scans.specs.Plain.{plain}
+use Rattle.scans.specs.Remember.{remembering}
+use Rattle.scans.specs.Occurrences.{occurrences, multiples}
+use Rattle.scans.specs.Refusal.{refusalOf}
+use Rattle.scans.specs.Promise.{answerOf, tallyOf, reportedAfter}
+use Rattle.scans.specs.inside.Stamp.{remembered}
+use Rattle.scans.specs.inside.Window.{Sizes, Moving}
+use Rattle.scans.specs.inside.Hits.{runOf}
+use Rattle.scans.specs.inside.Search.{refusedBy, searchedOf, answerBy, tallyBy}
+use Rattle.scans.specs.declared.Prepared.{Prepared}
+use Rattle.scans.specs.Promise.{Plainly, Rememberingly, Aligning}
+use Rattle.scans.specs.Demands.{demand2}
+use Rattle.scans.specs.inside.Search.{Searching, Preparing}
+use Rattle.scans.specs.laws.Refusal.{accepted}
+
+-- WHAT A SEARCH GIVES, by its refusal
+-- a refusal, and a run without one
+pub refused-is : (k d : ℕ) (ws : List Window) → (k ≡ 0 → ⊥) → refusedBy k ≡ searchedOf k d ws
+refused-is zero d ws h = absurd (h refl)
+refused-is (suc k) d ws h = refl
+
+pub run-is : (k d : ℕ) (ws : List Window) {run : Run} → k ≡ 0 → run ≡ runOf d ws → record { refusal = 0; run = run } ≡ searchedOf k d ws
+run-is k d ws z e = rw z (λ i. record { refusal = 0; run = e i })
+
+shown : (k d : ℕ) (ws : List Window) → searchedOf k d ws .refusal ≡ k
+shown zero d ws = refl
+shown (suc k) d ws = refl
+
+answer-is : (k d : ℕ) (ws : List Window) (n : ℕ) → answerBy (searchedOf k d ws) n ≡ answerOf k ws n
+unfolding answerOf
+answer-is zero d ws n = refl
+answer-is (suc k) d ws n = let z : min 0 n ≡ 0 = omega arith in λ i. record { refusal = suc k; occurrences = 0; written = z i; windows = 0; comparisons = 0 }
+
+tally-is : (k d : ℕ) (ws : List Window) → tallyBy (searchedOf k d ws) ≡ tallyOf k (multiples d (positions ws))
+unfolding tallyOf
+tally-is zero d ws = refl
+tally-is (suc k) d ws = refl
+
+pub reported-kept : (k : ℕ) (ps d : List ℕ) → (k ≡ 0 → ⊥) → reportedAfter k ps d ≡ d
+reported-kept zero ps d h = absurd (h refl)
+reported-kept (suc k) ps d h = refl
+
+-- THE TABLES ARE READY where nothing was refused
+pub record Ready (x y s h occ : List ℕ) : Type 0 where
+  pub sizes : Sizes x y
+  pub suffix : Begins (suffixTable x) s
+  pub moving : Moving x h occ
+
+pub ready : {x : List ℕ} (y : List ℕ) {k : ℕ} {s h : List ℕ} {p : Prepared} {s′ h′ : List ℕ} → Preparing x (length y) k s h p s′ h′ → p .refusal ≡ 0
+    → k ≤ length s → k ≤ length h → (Ready x y s′ h′ (p .occ)) × (length x ≤ k)
+ready {x} y {k} {s} {h} {p} {s′} {h′} g z u v =
+    let a = accepted (length x) (length y) k (g .refusal) z in
+    let es : s′ ≡ front (suffixTable x) s = rw z at (g .suffix) in
+    let eh : h′ ≡ front (shiftTable x) h = rw z at (g .shift) in (
+      record {
+        sizes = record { some = a .some; short = a .short; small = a .small };
+        suffix = begins-front (suffixTable x) s (omega (arith, a .reaches, length-suffixTable x)) es;
+        moving = record { begins = begins-front (shiftTable x) h (omega (arith, a .reaches, length-shiftTable x)) eh; byte = g .byte z };
+      },
+      a .reaches,
+    )
+
+-- THE PROMISES, out of what was prepared and what was searched
+pub plain-is : {x y s h d : List ℕ} {k : ℕ} {p : Prepared} {r : Answer} {s′ h′ d′ : List ℕ} → k ≡ min (length s) (length h) → Preparing x (length y) k s h p s′ h′
+    → r ≡ answerBy (searchedOf (p .refusal) 0 (plain x y)) (length d) → d′ ≡ reportedAfter (p .refusal) (positions (plain x y)) d → Plainly x y s h d r s′ h′ d′
+plain-is {x} {y} {s} {h} {d} {k} {p} {r} {s′} {h′} {d′} ek g e places =
+    let ws = plain x y in
+    let q : r .refusal ≡ p .refusal = ap (λ (r : Answer). r .refusal) e ∙ shown (p .refusal) 0 ws in
+    record {
+      answer = e ∙ answer-is (p .refusal) 0 ws (length d) ∙ ap (λ (k : ℕ). answerOf k ws (length d)) (g .refusal ∙ ap (refusalOf (length x) (length y)) ek);
+      suffix = rw q (g .suffix);
+      shift = rw q (g .shift);
+      places = rw q places;
+    }
+
+pub search-is : {x y s h e d : List ℕ} {step k : ℕ} {p : Prepared} {r : Searched} {s′ h′ e′ d′ : List ℕ} → k ≡ min (length s) (min (length h) (length e))
+    → Preparing x (length y) k s h p s′ h′ → r ≡ searchedOf (p .refusal) step (remembering x y) → e′ ≡ roomAfter (p .refusal) (replicate (length x) 0) e
+    → d′ ≡ reportedAfter (p .refusal) (positions (remembering x y)) d → Searching x y s h e d step r s′ h′ e′ d′
+search-is {x} {y} {s} {h} {e} {d} {step} {k} {p} {r} ek g q memory places =
+    let ws = remembering x y in
+    let z : r .refusal ≡ p .refusal = ap (λ (r : Searched). r .refusal) q ∙ shown (p .refusal) step ws in
+    record {
+      answer = q ∙ ap (λ (k : ℕ). searchedOf k step ws) (g .refusal ∙ ap (refusalOf (length x) (length y)) ek);
+      suffix = rw z (g .suffix);
+      shift = rw z (g .shift);
+      memory = rw z memory;
+      places = rw z places;
+    }
+
+module _ {x y s h e d : List ℕ} {step : ℕ} {q : Searched} {s′ h′ e′ d′ : List ℕ} (g : Searching x y s h e d step q s′ h′ e′ d′) where
+  cause : ℕ
+  cause = refusalOf (length x) (length y) (min (length s) (min (length h) (length e)))
+
+  pub remember-is : {r : Answer} → r ≡ answerBy q (length d) → Rememberingly x y s h e d r s′ h′ e′ d′
+  unfolding cause
+  remember-is {r} p =
+      let z : r .refusal ≡ q .refusal = ap (λ (r : Answer). r .refusal) p in
+      record {
+        answer = p ∙ ap (λ (q : Searched). answerBy q (length d)) (g .answer) ∙ answer-is cause step (remembering x y) (length d);
+        suffix = rw z (g .suffix);
+        shift = rw z (g .shift);
+        memory = rw z (g .memory);
+        places = rw z (g .places);
+      }
+
+  -- positions of the scan are the occurrences; where a cause refuses, no number is left of them
+  places-are : (k : ℕ) → cause ≡ k → tallyOf k (multiples step (positions (remembering x y))) ≡ tallyOf k (multiples step (occurrences x y))
+  unfolding cause tallyOf
+  places-are zero c =
+      let some = accepted (length x) (length y) (min (length s) (min (length h) (length e))) refl c .some in
+      ap (λ (l : List ℕ). tallyOf 0 (multiples step l)) (demand2 x y some .remembered)
+  places-are (suc k) c = refl
+
+  pub aligned-is : {r : Tally} → r ≡ tallyBy q → Aligning x y s h e step r s′ h′ e′
+  unfolding cause
+  aligned-is {r} p =
+      let z : r .refusal ≡ q .refusal = ap (λ (r : Tally). r .refusal) p in
+      record {
+        answer = p ∙ ap tallyBy (g .answer) ∙ tally-is cause step (remembering x y) ∙ places-are cause refl;
+        suffix = rw z (g .suffix);
+        shift = rw z (g .shift);
+        memory = rw z (g .memory);
+      }

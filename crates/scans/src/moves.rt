@@ -1,0 +1,49 @@
+// From one window to the next.
+ghost use mathlib.Core.Path.{_≡_};
+ghost use Prim.Native.Nat.{_+_, _<_, _≤_};
+ghost use lib.ListN.{length};
+ghost use Rattle.basics.specs.Lists.{at};
+ghost use Rattle.scans.specs.Move.{move};
+ghost use Rattle.scans.specs.inside.Window.{endOf, Lies, Moving};
+
+// The move after the window at j that ended so. Reading a stream byte as an index of the occurrence table compares
+// nothing; where its move would be negative, it counts as 0.
+pub(crate) fn by(
+    x: &[u8],
+    y: &[u8],
+    shift: &[u32],
+    occ: &[u32; 256],
+    j: usize,
+    left: usize,
+) -> usize
+    requires { ⌜ Lies (now x) (now y) j ⌝ }
+    requires { ⌜ Moving (now x) (now shift) (now occ) ⌝ }
+    requires { ⌜ left ≤ length (now x) ⌝ }
+    ensures value { λ r. ⌜ r ≡ move (now (x .entry)) (now (y .entry)) j (endOf left) ⌝ }
+    ensures bounds { λ r. ⌜ (1 ≤ r) × (r ≤ length (now (x .entry))) ⌝ }
+{
+    if left == 0 {
+        return entry(shift, 0);
+    }
+    let i = left - 1;
+    let b = index(y[j + i]);
+    basics::larger(
+        entry(shift, i),
+        basics::less(basics::wide(occ[b]), x.len() - left),
+    )
+}
+
+// Entry i of the shift table, as it stands in its room.
+fn entry(shift: &[u32], i: usize) -> usize
+    requires { ⌜ i < length (now shift) ⌝ }
+    ensures { λ r. ⌜ r ≡ at (now (shift .entry)) i ⌝ }
+{
+    basics::wide(shift[i])
+}
+
+// A byte as an index.
+fn index(b: u8) -> usize
+    ensures { λ r. ⌜ (r ≡ b) × (r < 256) ⌝ }
+{
+    b as usize
+}

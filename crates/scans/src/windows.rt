@@ -1,0 +1,178 @@
+// One window: where stream bytes are compared with probe bytes, and where the comparisons are counted.
+//
+// A window's end is a number, `left`: 0 where it matched, and i + 1 where it stopped at index i.
+ghost use mathlib.Core.Path.{_≡_};
+ghost use Prim.Native.Nat.{_+_, _<_, _≤_};
+ghost use lib.Dec.{eqb};
+ghost use lib.ListN.{length};
+ghost use Rattle.basics.specs.Lists.{at};
+ghost use Rattle.scans.specs.Plain.{plainPass};
+ghost use Rattle.scans.specs.Remember.{memFrom, memPass};
+ghost use Rattle.scans.specs.inside.Stamp.{recalled, Stands};
+ghost use Rattle.scans.specs.inside.Window.{seenOf, passedOf, Lies, Ahead, Recalling, Quiet};
+use crate::memory;
+use crate::memory::Place;
+
+// Two bytes compared, and the comparisons made so far.
+struct Met {
+    equal: bool,
+    count: u64,
+}
+
+// A window compared, and the comparisons made so far.
+pub(crate) struct Seen {
+    pub left: usize,
+    pub count: u64,
+}
+
+// The same with the memory's help; `kept` is the length to remember.
+pub(crate) struct Passed {
+    pub left: usize,
+    pub kept: usize,
+    pub count: u64,
+}
+
+// THE comparison of a stream byte with a probe byte: both scans compare here and nowhere else, and each call adds one to
+// the count.
+fn meet(a: u8, b: u8, count: u64) -> Met
+    requires { ⌜ count < 2199023255552 ⌝ }
+    ensures equal { λ r. ⌜ r .equal ≡ eqb a b ⌝ }
+    ensures count { λ r. ⌜ r .count ≡ count + 1 ⌝ }
+{
+    Met {
+        equal: a == b,
+        count: count + 1,
+    }
+}
+
+// Compares from the last index down to `low`.
+fn ahead(x: &[u8], y: &[u8], j: usize, low: usize, count: u64) -> Seen
+    requires { ⌜ Lies (now x) (now y) j ⌝ }
+    requires { ⌜ (low ≤ length (now x)) × (count < 1099511627776) ⌝ }
+    ensures { λ r. ⌜ Ahead (now (x .entry)) (now (y .entry)) j low count r ⌝ }
+{
+    let mut k = x.len();
+    let mut c = count;
+    while low < k {
+        let i = k - 1;
+        let met = meet(y[j + i], x[i], c);
+        c = met.count;
+        if !met.equal {
+            return Seen { left: k, count: c };
+        }
+        k = i;
+    }
+    Seen { left: k, count: c }
+}
+
+// The plain window at j.
+pub(crate) fn plainly(x: &[u8], y: &[u8], j: usize, count: u64) -> Seen
+    requires { ⌜ Lies (now x) (now y) j ⌝ }
+    requires { ⌜ count < 1099511627776 ⌝ }
+    ensures pass { λ r. ⌜ r ≡ seenOf (plainPass (now (x .entry)) (now (y .entry)) j) count ⌝ }
+    ensures within { λ r. ⌜ r .left ≤ length (now (x .entry)) ⌝ }
+{
+    ahead(x, y, j, 0, count)
+}
+
+// The remembering window at `start`. At `top` and above it nothing is remembered, so nothing is looked up.
+pub(crate) fn remembering(
+    x: &[u8],
+    y: &[u8],
+    suffix: &[u32],
+    mem: &[u32],
+    start: Place,
+    top: usize,
+    count: u64,
+) -> Passed
+    requires { ⌜ Lies (now x) (now y) (start .at) ⌝ }
+    requires { ⌜ Recalling (now x) (now suffix) (now mem) ⌝ }
+    requires { ⌜ Stands (length (now x)) (start .at) start ⌝ }
+    requires { ⌜ Quiet (length (now x)) (now mem) (start .at) top ⌝ }
+    requires { ⌜ count < 1099511627776 ⌝ }
+    ensures pass { λ r. ⌜ r ≡ passedOf (memPass (now (x .entry)) (now (y .entry)) (recalled (now (mem .entry)) (length (now (x .entry)))) (start .at)) count ⌝ }
+    ensures within { λ r. ⌜ (r .left ≤ length (now (x .entry))) × (r .kept ≤ length (now (x .entry))) ⌝ }
+{
+    let low = basics::less(top, start.at);
+    let seen = ahead(x, y, start.at, low, count);
+    let left = seen.left;
+    if low < left {
+        return Passed {
+            left,
+            kept: x.len() - left,
+            count: seen.count,
+        };
+    }
+    below(x, y, suffix, mem, start, low, seen.count)
+}
+
+// The rest of the window at `start`, from index `from` - 1 down, by the four rules.
+fn below(
+    x: &[u8],
+    y: &[u8],
+    suffix: &[u32],
+    mem: &[u32],
+    start: Place,
+    from: usize,
+    count: u64,
+) -> Passed
+    requires { ⌜ Lies (now x) (now y) (start .at) ⌝ }
+    requires { ⌜ Recalling (now x) (now suffix) (now mem) ⌝ }
+    requires { ⌜ Stands (length (now x)) (start .at) start ⌝ }
+    requires { ⌜ (from ≤ length (now x)) × (count < 1099511631872) ⌝ }
+    ensures { λ r. ⌜ r ≡ passedOf (memFrom (now (x .entry)) (now (y .entry)) (recalled (now (mem .entry)) (length (now (x .entry)))) (start .at) from from) count ⌝ }
+{
+    let m = x.len();
+    let mut k = from;
+    let mut c = count;
+    while 0 < k {
+        let i = k - 1;
+        let h = memory::on(m, start, i);
+        let r = memory::recall(mem, m, h);
+        if r == 0 {
+            let at = h.at;
+            let met = meet(y[at], x[i], c);
+            c = met.count;
+            if !met.equal {
+                return Passed {
+                    left: k,
+                    kept: m - k,
+                    count: c,
+                };
+            }
+            k = i;
+        } else {
+            let s = entry(suffix, i);
+            if r <= s {
+                k -= r;
+            } else if s == k {
+                return Passed {
+                    left: 0,
+                    kept: m,
+                    count: c,
+                };
+            } else {
+                // Counted from i, before the suffix entry is taken off.
+                let behind = m - k;
+                return Passed {
+                    left: k - s,
+                    kept: behind,
+                    count: c,
+                };
+            }
+        }
+    }
+    Passed {
+        left: 0,
+        kept: m,
+        count: c,
+    }
+}
+
+// Entry i of the suffix table, as it stands in its room.
+fn entry(suffix: &[u32], i: usize) -> usize
+    requires { ⌜ i < length (now suffix) ⌝ }
+    ensures { λ r. ⌜ r ≡ at (now (suffix .entry)) i ⌝ }
+{
+    basics::wide(suffix[i])
+}

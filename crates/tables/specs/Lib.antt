@@ -1,0 +1,15 @@
+-- The tables of a probe, in the order of document 01: what a reader must believe.
+-- entry i: the length of the longest common suffix of x[0..i] and x
+pub mod Suffix
+-- entry i: the smallest shift that may still show an occurrence after a stop at i
+pub mod Shift
+-- entry a: how far before the last place byte a stands last
+pub mod Occurrence
+-- which refusal, by the causes
+pub mod Refusal
+-- what each public call promises, and that it determines the outcome
+pub mod Promise
+-- the starred rows
+pub mod Figures
+-- the laws, for the proofs of this crate and of those above it
+pub mod laws

@@ -1,0 +1,15 @@
+-- What the layers above may cite: readings of each entry, so that nobody opens a definition.
+-- the suffix entry is the greatest k: its bytes agree, and the next differ or do not exist
+pub mod Suffix
+-- the shift entry lies from 1 to m, fits, and nothing smaller does; entry 0 is the period
+pub mod Shift
+-- the occurrence entry lies from 1 to m, its byte stands there, and nothing smaller does
+pub mod Occurrence
+-- the causes, one by one
+pub mod Refusal
+-- the shift table in linear time, out of the suffix table: figure 11 of source 001
+pub mod Figure11
+-- the occurrence table, byte after byte
+pub mod Seen
+-- what the calls give where no cause refuses them
+pub mod Promise

@@ -1,0 +1,178 @@
+/*
+ * Nahuitepol: exact search for a probe in a stream, and the overlap check of draw logs.
+ *
+ * A lent array is a pointer and the count of its elements (not of its bytes). The pointer may be NULL where
+ * the count is 0. A const array is read only. A "room" is an array that the call may write to: work rooms,
+ * position rooms and result rooms all hold 32-bit numbers. A room may be longer than needed; what a call does
+ * not promise to write stays as it was, and what a room holds before the call does not matter.
+ *
+ * THE CALLER'S ONE DUTY, beyond lending as many elements as each count says: lent rooms overlap neither each
+ * other nor the inputs. With that kept, every input gets an answer.
+ *
+ * REFUSALS. Every answer has a refusal number; 0 says that the call did its work. On a refusal every lent room
+ * is unchanged and every other number of the answer is 0, but for the entry number beside 15, 16 and 17.
+ *
+ *   No.  Cause
+ *    1   probe has no bytes
+ *    2   probe over 4,096 bytes
+ *    3   stream over 16,777,216 bytes
+ *    4   a work room has fewer entries than the probe has bytes (in the check: fewer than 8p)
+ *    5   result room of the check below 4 * c * (c - 1) numbers, for c replicates
+ *   10   log under 12 bytes
+ *   11   log over 65,536 bytes
+ *   12   mark wrong
+ *   13   directory count not 1 to 64
+ *   14   directory start + 12 * count + 12 differs from the log's length
+ *   15   id not above the one before
+ *   16   block not where the previous one ended (the first: not at byte 0), or last end not the directory start
+ *   17   block length no multiple of 8
+ *   18   no replicate with this id
+ *   20   p not 1 to 512
+ *
+ * Where several causes hold, the number is that of the first in the order in which they are tested:
+ *   tables and searches   1, 2, 3, 4
+ *   log test              10, 11, 12, 13, 14; then each entry in turn for 15, 16, 17; then the last end (16)
+ *   lookup                the log test, then 18
+ *   check                 the log test, then 20, 4, 5
+ * 15, 16 and 17 carry the number of their entry, from 0; a wrong last end is 16 and carries the count. All
+ * other refusals carry entry 0.
+ */
+#ifndef NAHUITEPOL_H
+#define NAHUITEPOL_H
+
+#include <stddef.h>
+#include <stdint.h>
+
+#ifdef __cplusplus
+extern "C" {
+#endif
+
+/* The answers. */
+
+/* The occurrence table of a probe, with an entry for each byte; 256 zeros beside a refusal. */
+typedef struct {
+    uint32_t refusal;
+    uint32_t table[256];
+} nahui_occurrences;
+
+/* The answer of a search. */
+typedef struct {
+    uint32_t refusal;
+    uint32_t entry;       /* always 0: a search has no entries */
+    uint64_t occurrences; /* of the probe in the stream, whether or not the position room took them */
+    uint64_t written;     /* positions written: the smaller of occurrences and positions_len */
+    uint64_t windows;     /* windows visited */
+    uint64_t comparisons; /* comparisons of a stream byte with a probe byte */
+} nahui_searched;
+
+/* The answer of the log test. */
+typedef struct {
+    uint32_t refusal;
+    uint32_t entry;
+    uint32_t count; /* replicates in the log */
+} nahui_tested;
+
+/* The answer of the lookup: the block of a replicate as a stretch of the log. */
+typedef struct {
+    uint32_t refusal;
+    uint32_t entry;
+    uint32_t start;  /* first byte of the block, from the log's start */
+    uint32_t length; /* in bytes; may be 0 */
+} nahui_found;
+
+/* The answer of the overlap check. */
+typedef struct {
+    uint32_t refusal;
+    uint32_t entry;
+    uint32_t pairs;    /* overlapping pairs; the first 4 * pairs numbers of the result room tell them */
+    uint32_t unprobed; /* owners whose block is shorter than 8p bytes */
+} nahui_checked;
+
+/*
+ * The tables of a probe x of m = probe_len bytes, 1 to 4,096. All indices run from 0.
+ */
+
+/*
+ * Writes the suffix table to the first m entries of room: entry i is the length of the longest common suffix
+ * of x[0..i] and x. Answers the refusal: 0, 1, 2 or 4.
+ *   room   at least m entries; those from m on stay as they were
+ */
+uint32_t nahui_suffix(const uint8_t *probe, size_t probe_len, uint32_t *room, size_t room_len);
+
+/*
+ * Writes the shift table to the first m entries of room: entry i is the smallest s from 1 to m such that
+ *   s <= i:  x[i-s+1..m-s-1] equals x[i+1..m-1], and x[i-s] differs from x[i];
+ *   s >  i:  x[0..m-s-1] is a suffix of x.
+ * Entry 0 is the period of x. Answers the refusal: 0, 1, 2 or 4.
+ *   room   at least m entries; those from m on stay as they were
+ */
+uint32_t nahui_shift(const uint8_t *probe, size_t probe_len, uint32_t *room, size_t room_len);
+
+/*
+ * Answers the occurrence table by value: for byte a the smallest k from 1 to m - 1 with x[m-1-k] = a, and m
+ * where there is none. The refusal is 0, 1 or 2.
+ */
+nahui_occurrences nahui_occurrence(const uint8_t *probe, size_t probe_len);
+
+/*
+ * The searches: all positions of a probe of m = probe_len bytes, 1 to 4,096, in a stream of n = stream_len
+ * bytes, 0 to 16,777,216. The refusal is 0, 1, 2, 3 or 4. Both find the same positions at the same windows;
+ * the remembering scan never makes more comparisons than the plain one, and for n >= m at most 2n - m + 1.
+ *
+ *   suffix, shift   work rooms of at least m entries; end with the two tables in their first m entries
+ *   memory          work room of at least m entries; ends with 0 in its first m entries
+ *   positions       takes the first positions, ascending, as far as it reaches; it may have any length, and
+ *                   entries beyond those written stay as they were
+ *
+ * For n < m the search succeeds: the rooms end as said, and the four numbers are 0.
+ */
+
+/* Searches by the plain Boyer-Moore scan. */
+nahui_searched nahui_plain(const uint8_t *probe, size_t probe_len,
+                           const uint8_t *stream, size_t stream_len,
+                           uint32_t *suffix, size_t suffix_len,
+                           uint32_t *shift, size_t shift_len,
+                           uint32_t *positions, size_t positions_len);
+
+/* Searches by the remembering scan after Apostolico and Giancarlo. */
+nahui_searched nahui_remember(const uint8_t *probe, size_t probe_len,
+                              const uint8_t *stream, size_t stream_len,
+                              uint32_t *suffix, size_t suffix_len,
+                              uint32_t *shift, size_t shift_len,
+                              uint32_t *memory, size_t memory_len,
+                              uint32_t *positions, size_t positions_len);
+
+/*
+ * Draw logs, of 12 to 65,536 bytes. All their numbers are 32-bit, low byte first: the blocks, back to back
+ * from byte 0; the directory, 12 bytes for each of 1 to 64 replicates (id, start, length in bytes), ids rising
+ * strictly; and the last 12 bytes (directory start, count, and the mark "DRAW").
+ */
+
+/* Tests a log and answers its number of replicates. The refusal is 0 or 10 to 17. */
+nahui_tested nahui_log_test(const uint8_t *log, size_t log_len);
+
+/* Looks up the block of the replicate with this id. The refusal is 0 or 10 to 18. */
+nahui_found nahui_log_find(const uint8_t *log, size_t log_len, uint32_t id);
+
+/*
+ * The overlap check. The probe of owner a is the first p draws (8p bytes) of its block, p from 1 to 512; an
+ * owner with a shorter block is unprobed. Every other block b is searched for it, at every byte offset.
+ * The refusal is 0, 10 to 17, 20, 4 or 5.
+ *
+ *   suffix, shift, memory   work rooms of at least 8p entries each, whether or not any owner is probed; end
+ *                           with 0 in their first 8p entries
+ *   result                  at least 4 * c * (c - 1) numbers for c replicates; takes four numbers for each
+ *                           overlapping pair, owners ascending, then b ascending: id of a, id of b, first
+ *                           offset from the start of b's block, number of occurrences; the rest stays as it was
+ */
+nahui_checked nahui_check(const uint8_t *log, size_t log_len, uint32_t p,
+                          uint32_t *suffix, size_t suffix_len,
+                          uint32_t *shift, size_t shift_len,
+                          uint32_t *memory, size_t memory_len,
+                          uint32_t *result, size_t result_len);
+
+#ifdef __cplusplus
+}
+#endif
+
+#endif

@@ -1,0 +1,135 @@
+/*
+ * Both searches from C, with known answers.
+ */
+#include "nahuitepol.h"
+#include "support.h"
+
+#include <string.h>
+
+static const uint32_t abab_suffix[] = {0, 2, 0, 4};
+static const uint32_t abab_shift[] = {2, 2, 4, 1};
+
+static bool answers(nahui_searched answer, uint64_t occurrences, uint64_t written, uint64_t windows,
+                    uint64_t comparisons)
+{
+    return answer.refusal == 0 && answer.entry == 0 && answer.occurrences == occurrences
+        && answer.written == written && answer.windows == windows && answer.comparisons == comparisons;
+}
+
+static bool refuses(nahui_searched answer, uint32_t number)
+{
+    return answer.refusal == number && answer.entry == 0 && answer.occurrences == 0 && answer.written == 0
+        && answer.windows == 0 && answer.comparisons == 0;
+}
+
+static void plain_scan(void)
+{
+    const uint32_t found[] = {0, 2};
+    uint32_t *suffix = room(4), *shift = room(5), *positions = room(3);
+    nahui_searched answer =
+        nahui_plain(bytes("abab", 4), 4, bytes("ababab", 6), 6, suffix, 4, shift, 5, positions, 3);
+    EXPECT(answers(answer, 2, 2, 2, 8));
+    EXPECT(holds_just(suffix, 4, abab_suffix, 4));
+    EXPECT(holds_just(shift, 5, abab_shift, 4));
+    EXPECT(holds_just(positions, 3, found, 2));
+}
+
+static void remembering_scan(void)
+{
+    const uint32_t found[] = {0, 2};
+    uint32_t *suffix = room(4), *shift = room(5), *memory = room(6), *positions = room(2);
+    nahui_searched answer = nahui_remember(bytes("abab", 4), 4, bytes("ababab", 6), 6, suffix, 4, shift, 5,
+                                           memory, 6, positions, 2);
+    EXPECT(answers(answer, 2, 2, 2, 6));
+    EXPECT(holds_just(suffix, 4, abab_suffix, 4));
+    EXPECT(holds_just(shift, 5, abab_shift, 4));
+    EXPECT(zeros_in_front(memory, 6, 4));
+    EXPECT(holds_just(positions, 2, found, 2));
+}
+
+static void short_position_rooms(void)
+{
+    const uint32_t found[] = {0};
+    uint32_t *suffix = room(4), *shift = room(4), *memory = room(4), *positions = room(1);
+    const uint8_t *probe = bytes("abab", 4), *stream = bytes("ababab", 6);
+    EXPECT(answers(nahui_plain(probe, 4, stream, 6, suffix, 4, shift, 4, positions, 1), 2, 1, 2, 8));
+    EXPECT(holds_just(positions, 1, found, 1));
+    EXPECT(answers(nahui_plain(probe, 4, stream, 6, suffix, 4, shift, 4, NULL, 0), 2, 0, 2, 8));
+    EXPECT(answers(nahui_remember(probe, 4, stream, 6, suffix, 4, shift, 4, memory, 4, NULL, 0), 2, 0, 2, 6));
+}
+
+static void empty_streams(void)
+{
+    uint32_t *suffix = room(4), *shift = room(4), *memory = room(4);
+    const uint8_t *probe = bytes("abab", 4);
+    EXPECT(answers(nahui_plain(probe, 4, NULL, 0, suffix, 4, shift, 4, NULL, 0), 0, 0, 0, 0));
+    EXPECT(answers(nahui_remember(probe, 4, NULL, 0, suffix, 4, shift, 4, memory, 4, NULL, 0), 0, 0, 0, 0));
+    EXPECT(holds_just(suffix, 4, abab_suffix, 4));
+    EXPECT(holds_just(shift, 4, abab_shift, 4));
+    EXPECT(zeros_in_front(memory, 4, 4));
+}
+
+static void empty_probes(void)
+{
+    EXPECT(refuses(nahui_plain(NULL, 0, NULL, 0, NULL, 0, NULL, 0, NULL, 0), 1));
+    EXPECT(refuses(nahui_remember(NULL, 0, NULL, 0, NULL, 0, NULL, 0, NULL, 0, NULL, 0), 1));
+}
+
+static void short_work_rooms(void)
+{
+    uint32_t *suffix = room(4), *shift = room(4), *memory = room(4), *positions = room(2);
+    const uint8_t *probe = bytes("abab", 4), *stream = bytes("ababab", 6);
+    EXPECT(refuses(nahui_plain(probe, 4, stream, 6, suffix, 3, shift, 4, positions, 2), 4));
+    EXPECT(refuses(nahui_plain(probe, 4, stream, 6, suffix, 4, shift, 3, positions, 2), 4));
+    EXPECT(refuses(nahui_remember(probe, 4, stream, 6, suffix, 4, shift, 4, memory, 3, positions, 2), 4));
+    EXPECT(refuses(nahui_remember(probe, 4, stream, 6, suffix, 4, shift, 4, NULL, 0, positions, 2), 4));
+    EXPECT(untouched(suffix, 4) && untouched(shift, 4) && untouched(memory, 4) && untouched(positions, 2));
+}
+
+/* Writes every position of the probe, found by a look at each, and answers their number. */
+static size_t look_everywhere(const uint8_t *probe, size_t m, const uint8_t *stream, size_t n, uint32_t *found)
+{
+    size_t count = 0;
+    for (size_t j = 0; j + m <= n; j++)
+        if (memcmp(stream + j, probe, m) == 0)
+            found[count++] = (uint32_t)j;
+    return count;
+}
+
+static void search_both_ways(const uint8_t *probe, size_t m, const uint8_t *stream, size_t n)
+{
+    uint32_t found[64];
+    size_t count = look_everywhere(probe, m, stream, n, found);
+    const uint8_t *x = bytes(probe, m), *y = bytes(stream, n);
+    uint32_t *suffix = room(m), *shift = room(m), *memory = room(m);
+    uint32_t *plainly = room(count), *remembering = room(count);
+    EXPECT(nahui_plain(x, m, y, n, suffix, m, shift, m, plainly, count).occurrences == count);
+    EXPECT(nahui_remember(x, m, y, n, suffix, m, shift, m, memory, m, remembering, count).occurrences == count);
+    EXPECT(holds_just(plainly, count, found, count));
+    EXPECT(holds_just(remembering, count, found, count));
+    EXPECT(zeros_in_front(memory, m, m));
+    give_arrays_back();
+}
+
+/* Stretches of a word with many repetitions, searched for one another. */
+static void stretches_of_every_length(void)
+{
+    const char *word = "abaababaabaababaababaabaababaabaababaababaabaababaabab";
+    const uint8_t *letters = (const uint8_t *)word;
+    for (size_t m = 1; m <= 20; m++)
+        for (size_t n = 0; n <= strlen(word); n++)
+            for (size_t start = 0; start < 3; start++)
+                search_both_ways(letters + start, m, letters, n);
+}
+
+int main(void)
+{
+    run("plain scan of abab in ababab", plain_scan);
+    run("remembering scan of abab in ababab", remembering_scan);
+    run("short position rooms keep the total true", short_position_rooms);
+    run("empty streams leave tables and four zeros", empty_streams);
+    run("empty probes are refused 1", empty_probes);
+    run("short work rooms are refused 4", short_work_rooms);
+    run("stretches of every length up to 20", stretches_of_every_length);
+    return status();
+}

@@ -1,0 +1,100 @@
+/*
+ * The table calls from C, with known answers.
+ */
+#include "nahuitepol.h"
+#include "support.h"
+
+static void suffix_of_abab(void)
+{
+    const uint32_t table[] = {0, 2, 0, 4};
+    uint32_t *exact = room(4);
+    uint32_t *longer = room(7);
+    EXPECT(nahui_suffix(bytes("abab", 4), 4, exact, 4) == 0);
+    EXPECT(holds_just(exact, 4, table, 4));
+    EXPECT(nahui_suffix(bytes("abab", 4), 4, longer, 7) == 0);
+    EXPECT(holds_just(longer, 7, table, 4));
+}
+
+static void shift_of_abab(void)
+{
+    const uint32_t table[] = {2, 2, 4, 1};
+    uint32_t *exact = room(4);
+    uint32_t *longer = room(7);
+    EXPECT(nahui_shift(bytes("abab", 4), 4, exact, 4) == 0);
+    EXPECT(holds_just(exact, 4, table, 4));
+    EXPECT(nahui_shift(bytes("abab", 4), 4, longer, 7) == 0);
+    EXPECT(holds_just(longer, 7, table, 4));
+}
+
+static void occurrence_of_abab(void)
+{
+    nahui_occurrences answer = nahui_occurrence(bytes("abab", 4), 4);
+    EXPECT(answer.refusal == 0);
+    for (int byte = 0; byte < 256; byte++)
+        EXPECT(answer.table[byte] == (byte == 'a' ? 1 : byte == 'b' ? 2 : 4));
+}
+
+static void empty_probes(void)
+{
+    uint32_t *lent = room(2);
+    EXPECT(nahui_suffix(NULL, 0, NULL, 0) == 1);
+    EXPECT(nahui_shift(NULL, 0, NULL, 0) == 1);
+    EXPECT(nahui_suffix(NULL, 0, lent, 2) == 1);
+    EXPECT(nahui_shift(NULL, 0, lent, 2) == 1);
+    EXPECT(untouched(lent, 2));
+    nahui_occurrences answer = nahui_occurrence(NULL, 0);
+    EXPECT(answer.refusal == 1);
+    for (int byte = 0; byte < 256; byte++)
+        EXPECT(answer.table[byte] == 0);
+}
+
+static void probes_of_4097_bytes(void)
+{
+    static const uint8_t zeros[4097];
+    const uint8_t *probe = bytes(zeros, 4097);
+    uint32_t *lent = room(4097);
+    EXPECT(nahui_suffix(probe, 4097, lent, 4097) == 2);
+    EXPECT(nahui_shift(probe, 4097, lent, 4097) == 2);
+    EXPECT(nahui_occurrence(probe, 4097).refusal == 2);
+    EXPECT(untouched(lent, 4097));
+    EXPECT(nahui_suffix(probe, 4096, lent, 4096) == 0);
+    EXPECT(lent[0] == 1 && lent[4095] == 4096 && lent[4096] == UNTOUCHED);
+}
+
+static void short_rooms(void)
+{
+    uint32_t *lent = room(3);
+    EXPECT(nahui_suffix(bytes("abab", 4), 4, lent, 3) == 4);
+    EXPECT(nahui_shift(bytes("abab", 4), 4, lent, 3) == 4);
+    EXPECT(untouched(lent, 3));
+    EXPECT(nahui_suffix(bytes("abab", 4), 4, NULL, 0) == 4);
+    EXPECT(nahui_shift(bytes("abab", 4), 4, NULL, 0) == 4);
+}
+
+/* Of equal bytes, both tables count from 1. */
+static void equal_bytes_of_every_length(void)
+{
+    uint8_t equal[130] = {0};
+    uint32_t counted[130];
+    for (uint32_t m = 1; m <= 130; m++) {
+        uint32_t *suffix = room(m), *shift = room(m);
+        counted[m - 1] = m;
+        EXPECT(nahui_suffix(bytes(equal, m), m, suffix, m) == 0);
+        EXPECT(nahui_shift(bytes(equal, m), m, shift, m) == 0);
+        EXPECT(holds_just(suffix, m, counted, m));
+        EXPECT(holds_just(shift, m, counted, m));
+        give_arrays_back();
+    }
+}
+
+int main(void)
+{
+    run("suffix table of abab", suffix_of_abab);
+    run("shift table of abab", shift_of_abab);
+    run("occurrence table of abab", occurrence_of_abab);
+    run("empty probes are refused 1", empty_probes);
+    run("probes of 4097 bytes are refused 2", probes_of_4097_bytes);
+    run("short rooms are refused 4", short_rooms);
+    run("equal bytes of every length up to 130", equal_bytes_of_every_length);
+    return status();
+}

@@ -1,0 +1,57 @@
+//! The overlap check: every block searched for the front of every other one, at every byte offset.
+
+use crate::log::{self, Refusal};
+use crate::scans;
+
+/// The most draws that a probe may have.
+pub const MOST_DRAWS: u32 = 512;
+
+/// What the check finds: four numbers for each overlapping pair, and how many owners are unprobed.
+#[derive(Debug, Clone, PartialEq, Eq, Default)]
+pub struct Check {
+    pub result: Vec<u32>,
+    pub unprobed: u32,
+}
+
+/// The check of a log with p draws, given the lengths of the work rooms and of the result room.
+pub fn check(log: &[u8], p: u32, work_rooms: &[usize], result_room: usize) -> Result<Check, Refusal> {
+    let entries = log::test(log)?;
+    if !(1..=MOST_DRAWS).contains(&p) {
+        return Err(Refusal::plain(20));
+    }
+    let probe_length = probe_length(p);
+    if work_rooms.iter().any(|&room| room < probe_length) {
+        return Err(Refusal::plain(4));
+    }
+    if result_room < numbers_needed(entries.len()) {
+        return Err(Refusal::plain(5));
+    }
+    Ok(search_all(log, &entries, probe_length))
+}
+
+/// The bytes of a probe of p draws, which is also what each work room needs.
+pub fn probe_length(p: u32) -> usize {
+    8 * p as usize
+}
+
+/// What the result room needs for c replicates.
+pub fn numbers_needed(c: usize) -> usize {
+    4 * c * (c - 1)
+}
+
+fn search_all(log: &[u8], entries: &[log::Entry], probe_length: usize) -> Check {
+    let mut found = Check::default();
+    for (a, owner) in entries.iter().enumerate() {
+        let Some(probe) = owner.block(log).get(..probe_length) else {
+            found.unprobed += 1;
+            continue;
+        };
+        for (b, searched) in entries.iter().enumerate() {
+            let offsets = scans::positions(probe, searched.block(log));
+            if a != b && !offsets.is_empty() {
+                found.result.extend([owner.id, searched.id, offsets[0], offsets.len() as u32]);
+            }
+        }
+    }
+    found
+}

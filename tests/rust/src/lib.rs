@@ -1,0 +1,21 @@
+//! An independent implementation of document 01, for the tests to compare the library with.
+//!
+//! It is written from the document's words alone and takes the slow and plain way everywhere: tables by their
+//! definitions, search at every position, scans by their steps with a memory over the whole stream. It knows
+//! nothing of the library; only the files in tests/ do.
+//!
+//! | Module | Document 01 |
+//! |---|---|
+//! | [`tables`] | Tables of a probe |
+//! | [`scans`] | The two scans |
+//! | [`log`] | Draw log |
+//! | [`check`] | Overlap check |
+//!
+//! [`words`] makes probes and streams, [`rooms`] makes rooms that show every write.
+
+pub mod check;
+pub mod log;
+pub mod rooms;
+pub mod scans;
+pub mod tables;
+pub mod words;

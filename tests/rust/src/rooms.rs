@@ -1,0 +1,59 @@
+//! Rooms that show every write: a room lies inside a larger array, and the whole array is filled with numbers
+//! that no call writes, another one at each place.
+
+const MARGIN: usize = 4;
+
+/// A room of 32-bit numbers to lend.
+#[derive(Clone)]
+pub struct Room {
+    /// Margin, room, margin.
+    array: Vec<u32>,
+    /// The array as it was made.
+    before: Vec<u32>,
+}
+
+impl Room {
+    /// A room of this length, filled with large numbers that are all different.
+    pub fn new(length: usize) -> Room {
+        Room::made((0..length + 2 * MARGIN).map(canary).collect())
+    }
+
+    /// A room that holds these numbers.
+    pub fn holding(numbers: &[u32]) -> Room {
+        let mut array: Vec<u32> = (0..numbers.len() + 2 * MARGIN).map(canary).collect();
+        array[MARGIN..MARGIN + numbers.len()].copy_from_slice(numbers);
+        Room::made(array)
+    }
+
+    fn made(array: Vec<u32>) -> Room {
+        Room { before: array.clone(), array }
+    }
+
+    /// The room itself, for a call.
+    pub fn lend(&mut self) -> &mut [u32] {
+        let end = self.array.len() - MARGIN;
+        &mut self.array[MARGIN..end]
+    }
+
+    pub fn length(&self) -> usize {
+        self.array.len() - 2 * MARGIN
+    }
+
+    /// True where the room begins with these numbers, and everything else, inside and outside, is as it was.
+    pub fn holds_just(&self, front: &[u32]) -> bool {
+        let end = MARGIN + front.len();
+        self.array[..MARGIN] == self.before[..MARGIN]
+            && self.array[MARGIN..end] == *front
+            && self.array[end..] == self.before[end..]
+    }
+
+    /// True where nothing was written at all.
+    pub fn is_untouched(&self) -> bool {
+        self.array == self.before
+    }
+}
+
+/// A number of at least 2^31, so neither a table entry nor a position nor a length.
+fn canary(place: usize) -> u32 {
+    0x8000_0000 | (place as u32).wrapping_mul(0x0019_660D).wrapping_add(0x3C6E_F35F)
+}

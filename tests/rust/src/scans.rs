@@ -1,0 +1,158 @@
+//! Search for a probe x of m bytes in a stream y of n bytes: at every position, and by the steps of both scans.
+
+use crate::tables::{self, LONGEST_PROBE};
+
+/// The most bytes that a stream may have.
+pub const LONGEST_STREAM: usize = 16_777_216;
+
+/// The refusal of a search, given the lengths of its work rooms, if there is one.
+pub fn refusal(m: usize, n: usize, work_rooms: &[usize]) -> Option<u32> {
+    if m == 0 {
+        Some(1)
+    } else if m > LONGEST_PROBE {
+        Some(2)
+    } else if n > LONGEST_STREAM {
+        Some(3)
+    } else if work_rooms.iter().any(|&room| room < m) {
+        Some(4)
+    } else {
+        None
+    }
+}
+
+/// A probe with its three tables.
+pub struct Probe {
+    pub x: Vec<u8>,
+    pub suffix: Vec<u32>,
+    pub shift: Vec<u32>,
+    pub occurrence: [u32; 256],
+}
+
+/// What a scan did: where it found the probe, how many windows it visited, how often it compared.
+#[derive(Debug, Clone, PartialEq, Eq, Default)]
+pub struct Scan {
+    pub positions: Vec<u32>,
+    pub windows: u64,
+    pub comparisons: u64,
+}
+
+/// How a window ended.
+#[derive(Clone, Copy)]
+enum End {
+    Matched,
+    StoppedAt(usize),
+}
+
+/// Every position of x in y, by a look at each.
+pub fn positions(x: &[u8], y: &[u8]) -> Vec<u32> {
+    let found = y.windows(x.len()).enumerate().filter(|(_, window)| *window == x);
+    found.map(|(j, _)| position(j)).collect()
+}
+
+impl Probe {
+    pub fn new(x: &[u8]) -> Probe {
+        Probe {
+            x: x.to_vec(),
+            suffix: tables::suffix_table(x),
+            shift: tables::shift_table(x),
+            occurrence: tables::occurrence_table(x),
+        }
+    }
+
+    /// The number of its bytes, m.
+    pub fn length(&self) -> usize {
+        self.x.len()
+    }
+
+    /// The plain scan over y.
+    pub fn plain(&self, y: &[u8]) -> Scan {
+        let mut scan = Scan::default();
+        let mut j = 0;
+        while j + self.length() <= y.len() {
+            let end = self.plain_window(y, j, &mut scan.comparisons);
+            scan.leave_window(j, end);
+            j += self.movement(y, j, end);
+        }
+        scan
+    }
+
+    /// The remembering scan over y. R has a place for each position of y, and none is ever forgotten.
+    pub fn remember(&self, y: &[u8]) -> Scan {
+        let mut scan = Scan::default();
+        let mut remembered = vec![0; y.len()];
+        let mut j = 0;
+        while j + self.length() <= y.len() {
+            let (end, kept) = self.remembering_window(y, j, &remembered, &mut scan.comparisons);
+            scan.leave_window(j, end);
+            remembered[j + self.length() - 1] = kept;
+            j += self.movement(y, j, end);
+        }
+        scan
+    }
+
+    fn plain_window(&self, y: &[u8], j: usize, comparisons: &mut u64) -> End {
+        for i in (0..self.length()).rev() {
+            *comparisons += 1;
+            if y[j + i] != self.x[i] {
+                return End::StoppedAt(i);
+            }
+        }
+        End::Matched
+    }
+
+    /// How window j ends, and the number that it leaves at its last text position.
+    fn remembering_window(
+        &self,
+        y: &[u8],
+        j: usize,
+        remembered: &[usize],
+        comparisons: &mut u64,
+    ) -> (End, usize) {
+        let m = self.length();
+        let mut unseen = m; // the index i is unseen − 1; it falls below 0 when nothing is unseen
+        while unseen > 0 {
+            let i = unseen - 1;
+            let h = j + i;
+            let s = self.suffix[i] as usize;
+            match remembered[h] {
+                0 => {
+                    *comparisons += 1;
+                    if y[h] != self.x[i] {
+                        return (End::StoppedAt(i), m - 1 - i);
+                    }
+                    unseen -= 1;
+                }
+                r if r <= s => unseen -= r,
+                _ if s == i + 1 => return (End::Matched, m),
+                _ => return (End::StoppedAt(i - s), m - 1 - i),
+            }
+        }
+        (End::Matched, m)
+    }
+
+    /// How far the probe moves from window j.
+    fn movement(&self, y: &[u8], j: usize, end: End) -> usize {
+        match end {
+            End::Matched => self.shift[0] as usize,
+            End::StoppedAt(i) => {
+                let by_shift = i64::from(self.shift[i]);
+                let behind = (self.length() - 1 - i) as i64;
+                let by_occurrence = i64::from(self.occurrence[usize::from(y[j + i])]) - behind;
+                by_shift.max(by_occurrence) as usize
+            }
+        }
+    }
+}
+
+impl Scan {
+    fn leave_window(&mut self, j: usize, end: End) {
+        self.windows += 1;
+        if let End::Matched = end {
+            self.positions.push(position(j));
+        }
+    }
+}
+
+fn position(j: usize) -> u32 {
+    j.try_into().expect("a position in a stream has 32 bits")
+}

@@ -1,0 +1,408 @@
+//! The overlap check, compared with a search at every offset of every block: its answer, every entry of its
+//! four rooms, and what it refuses.
+
+use nahuitepol::Checked;
+use nahuitepol_tests::check::{check, numbers_needed, probe_length, MOST_DRAWS};
+use nahuitepol_tests::log::{self, document_log, draws, Parts};
+use nahuitepol_tests::rooms::Room;
+use nahuitepol_tests::words::{fibonacci, Generator};
+
+/// The rooms that the check takes.
+struct Rooms {
+    suffix: Room,
+    shift: Room,
+    memory: Room,
+    result: Room,
+}
+
+/// The lengths of suffix, shift and memory room.
+type Work = [usize; 3];
+
+const NO_LINES: [[u32; 4]; 0] = [];
+
+impl Rooms {
+    fn new(work: Work, result: usize) -> Rooms {
+        Rooms {
+            suffix: Room::new(work[0]),
+            shift: Room::new(work[1]),
+            memory: Room::new(work[2]),
+            result: Room::new(result),
+        }
+    }
+
+    fn check(&mut self, log: &[u8], p: u32) -> Checked {
+        let (suffix, shift, memory) = (self.suffix.lend(), self.shift.lend(), self.memory.lend());
+        nahuitepol::check(log, p, suffix, shift, memory, self.result.lend())
+    }
+
+    fn work(&self) -> [(&str, &Room); 3] {
+        [("suffix", &self.suffix), ("shift", &self.shift), ("memory", &self.memory)]
+    }
+
+    fn assert_after_success(&self, p: u32, result: &[u32], context: &str) {
+        let zeros = vec![0; probe_length(p)];
+        for (name, room) in self.work() {
+            assert!(room.holds_just(&zeros), "{name} room: {context}");
+        }
+        assert!(self.result.holds_just(result), "result room: {context}, not {result:?}");
+    }
+
+    fn assert_untouched(&self, context: &str) {
+        for (name, room) in self.work() {
+            assert!(room.is_untouched(), "{name} room: {context}");
+        }
+        assert!(self.result.is_untouched(), "result room: {context}");
+    }
+}
+
+/// One check with rooms of these lengths, compared in its answer and in every entry.
+fn compare_with(log: &[u8], p: u32, work: Work, result: usize) -> Checked {
+    let mut rooms = Rooms::new(work, result);
+    let answer = rooms.check(log, p);
+    let context = format!("log of {} bytes, p {p}, rooms {work:?} and {result}", log.len());
+    match check(log, p, &work, result) {
+        Ok(found) => {
+            let pairs = (found.result.len() / 4) as u32;
+            let expected = Checked { refusal: 0, entry: 0, pairs, unprobed: found.unprobed };
+            assert_eq!(answer, expected, "{context}");
+            rooms.assert_after_success(p, &found.result, &context);
+        }
+        Err(refusal) => {
+            assert_eq!(answer, refused(refusal.number, refusal.entry), "{context}");
+            rooms.assert_untouched(&context);
+        }
+    }
+    answer
+}
+
+/// One check with rooms that are longer than needed.
+fn compare(parts: &Parts, p: u32) -> Checked {
+    let work = probe_length(p);
+    let result = numbers_needed(parts.entries.len());
+    compare_with(&parts.bytes(), p, [work, work + 1, work + 2], result + 3)
+}
+
+/// The lines of a check of these blocks, whose ids are 1, 2, ..
+fn lines(blocks: &[&[u8]], p: u32) -> Vec<[u32; 4]> {
+    let parts = numbered(blocks);
+    let work = [probe_length(p); 3];
+    let mut rooms = Rooms::new(work, numbers_needed(blocks.len()));
+    let answer = rooms.check(&parts.bytes(), p);
+    assert_eq!(answer.refusal, 0);
+    let numbers = &rooms.result.lend()[..4 * answer.pairs as usize];
+    numbers.chunks(4).map(|line| line.try_into().expect("four numbers")).collect()
+}
+
+fn numbered(blocks: &[&[u8]]) -> Parts {
+    let replicates: Vec<(u32, &[u8])> = (1..).zip(blocks.iter().copied()).collect();
+    Parts::of(&replicates)
+}
+
+fn refused(number: u32, entry: u32) -> Checked {
+    Checked { refusal: number, entry, pairs: 0, unprobed: 0 }
+}
+
+fn expect_refusal(log: &[u8], p: u32, work: Work, result: usize, number: u32, entry: u32) {
+    let answer = compare_with(log, p, work, result);
+    assert_eq!(answer, refused(number, entry), "p {p}, rooms {work:?} and {result}");
+}
+
+/// A log whose blocks share many draws, at draw boundaries and elsewhere.
+fn random_parts(generator: &mut Generator, most_replicates: usize, most_draws: usize) -> Parts {
+    let values = [0, 1, 1 << 8, 1 << 32, 0x0101_0101_0101_0101, u64::MAX];
+    let kinds = generator.between(1, values.len());
+    let mut id = generator.pick(&[0, 3, 0xFFFF_FF00]);
+    let mut replicates = Vec::new();
+    for _ in 0..generator.between(1, most_replicates) {
+        let length = generator.between(0, most_draws);
+        let block = draws((0..length).map(|_| values[generator.below(kinds)]));
+        replicates.push((id, block));
+        id += generator.between(1, 3) as u32;
+    }
+    let lent: Vec<(u32, &[u8])> = replicates.iter().map(|(id, block)| (*id, &block[..])).collect();
+    Parts::of(&lent)
+}
+
+#[test]
+fn the_log_of_document_01_has_the_pair_3_7_64_1_and_9_unprobed() {
+    let mut rooms = Rooms::new([256; 3], 24);
+    let answer = rooms.check(&document_log(), 32);
+    assert_eq!(answer, Checked { refusal: 0, entry: 0, pairs: 1, unprobed: 1 });
+    rooms.assert_after_success(32, &[3, 7, 64, 1], "document 01");
+    compare_with(&document_log(), 32, [256; 3], 24);
+}
+
+#[test]
+fn equal_blocks_overlap_both_ways_in_ascending_order() {
+    let block = draws([4, 5, 6]);
+    let expected = [[1, 2, 0, 1], [1, 3, 0, 1], [2, 1, 0, 1], [2, 3, 0, 1], [3, 1, 0, 1], [3, 2, 0, 1]];
+    assert_eq!(lines(&[&block, &block, &block], 2), expected);
+}
+
+#[test]
+fn an_owner_is_not_searched_for_its_own_probe() {
+    let alone = draws([1, 2, 1, 2, 1, 2]);
+    assert_eq!(lines(&[&alone], 2), NO_LINES);
+    assert_eq!(lines(&[&alone, &draws([3, 4])], 2), NO_LINES);
+}
+
+#[test]
+fn occurrences_may_overlap_each_other() {
+    let owner = draws([7, 7, 1]);
+    let searched = draws([9, 7, 7, 7, 7]);
+    assert_eq!(lines(&[&owner, &searched], 2), [[1, 2, 8, 3]]);
+}
+
+#[test]
+fn occurrences_count_at_every_byte_offset() {
+    let owner = draws([0x0102_0304_0506_0708]);
+    let mut searched = vec![0; 24];
+    searched[3..11].copy_from_slice(&owner);
+    searched[13..21].copy_from_slice(&owner);
+    assert_eq!(lines(&[&owner, &searched], 1), [[1, 2, 3, 2]]);
+}
+
+#[test]
+fn the_first_offset_counts_from_the_start_of_the_searched_block() {
+    let owner = draws([41, 42]);
+    let searched = draws([1, 41, 42, 41, 42]);
+    assert_eq!(lines(&[&draws([0; 9]), &owner, &searched], 2), [[2, 3, 8, 2]]);
+    assert_eq!(lines(&[&searched, &draws([0; 9]), &owner], 2), [[3, 1, 8, 2]]);
+}
+
+#[test]
+fn a_probe_across_two_blocks_or_in_the_directory_is_not_found() {
+    let owner = draws([41, 42]);
+    assert_eq!(lines(&[&owner, &draws([1, 41]), &draws([42, 2])], 2), NO_LINES);
+    let directory_like = draws([1]);
+    let log = numbered(&[&directory_like, &draws([2])]).bytes();
+    assert!(log[16..].windows(8).any(|bytes| bytes == directory_like), "the directory has these bytes");
+    assert_eq!(lines(&[&directory_like, &draws([2])], 1), NO_LINES);
+}
+
+#[test]
+fn an_owner_with_exactly_p_draws_is_probed_and_one_with_fewer_is_not() {
+    let long = draws([1, 2, 3, 4]);
+    let parts = numbered(&[&draws([1, 2, 3]), &long, &draws([2, 3]), &[]]);
+    assert_eq!(compare(&parts, 3), Checked { refusal: 0, entry: 0, pairs: 2, unprobed: 2 });
+    assert_eq!(compare(&parts, 4), Checked { refusal: 0, entry: 0, pairs: 0, unprobed: 3 });
+    assert_eq!(compare(&parts, 5), Checked { refusal: 0, entry: 0, pairs: 0, unprobed: 4 });
+    assert_eq!(compare(&parts, 2), Checked { refusal: 0, entry: 0, pairs: 4, unprobed: 1 });
+}
+
+#[test]
+fn one_replicate_needs_no_result_room_and_has_no_pair() {
+    for length in [0, 1, 5] {
+        let log = numbered(&[&draws((0..length).map(|_| 0))]).bytes();
+        let answer = compare_with(&log, 2, [16; 3], 0);
+        let unprobed = u32::from(length < 2);
+        assert_eq!(answer, Checked { refusal: 0, entry: 0, pairs: 0, unprobed });
+    }
+}
+
+#[test]
+fn sixty_four_equal_replicates_give_4032_pairs() {
+    let block = draws([3; 10]);
+    let parts = numbered(&[&block[..]; 64]);
+    assert_eq!(compare(&parts, 10), Checked { refusal: 0, entry: 0, pairs: 4_032, unprobed: 0 });
+    assert_eq!(compare(&parts, 1).pairs, 4_032);
+    let log = parts.bytes();
+    compare_with(&log, 10, [80; 3], 16_128);
+    expect_refusal(&log, 10, [80; 3], 16_127, 5, 0);
+}
+
+#[test]
+fn the_greatest_probe_in_a_log_of_the_greatest_length() {
+    let mut generator = Generator::new(40);
+    let owner = generator.word(256, 4_096);
+    let noise = generator.word(2, 65_512 - 24 - 3 * 4_096);
+    let searched = [&noise[..], &owner, &owner].concat();
+    let parts = numbered(&[&owner, &searched, &[]]);
+    assert_eq!(parts.bytes().len(), log::LONGEST);
+    assert_eq!(compare(&parts, MOST_DRAWS), Checked { refusal: 0, entry: 0, pairs: 1, unprobed: 1 });
+    assert_eq!(lines(&[&owner, &searched], MOST_DRAWS), [[1, 2, noise.len() as u32, 2]]);
+}
+
+#[test]
+fn equal_bytes_in_all_blocks() {
+    for p in [1, 2, 7, 8, 64, 512] {
+        let parts = numbered(&[&[0; 8_192][..], &[0; 4_096], &[0; 56], &[], &[0; 16_384]]);
+        compare(&parts, p);
+    }
+}
+
+#[test]
+fn fibonacci_words_in_all_blocks() {
+    let word = fibonacci(12_000);
+    let parts = numbered(&[&word[..8_000], &word[13..4_013], &word[34..1_034], &word[89..6_089]]);
+    for p in [1, 2, 3, 5, 30, 125, 200, 500] {
+        compare(&parts, p);
+    }
+}
+
+#[test]
+fn logs_made_at_random() {
+    let mut generator = Generator::new(41);
+    let mut pairs = 0;
+    for _ in 0..12_000 {
+        let parts = random_parts(&mut generator, 6, 8);
+        let p = generator.between(1, 4) as u32;
+        pairs += compare(&parts, p).pairs;
+    }
+    assert!(pairs > 10_000, "only {pairs} pairs: the logs say little");
+}
+
+#[test]
+fn larger_logs_made_at_random() {
+    let mut generator = Generator::new(42);
+    for _ in 0..150 {
+        let parts = random_parts(&mut generator, 64, 100);
+        let p = generator.between(1, 40) as u32;
+        compare(&parts, p);
+    }
+}
+
+#[test]
+fn p_outside_1_to_512_is_refused_20() {
+    let log = document_log();
+    for p in [0, 513, 514, 1_024, 1 << 16, 1 << 29, (1 << 29) + 1, (1 << 29) + 32, 1 << 31, u32::MAX] {
+        expect_refusal(&log, p, [5_000; 3], 24, 20, 0);
+        expect_refusal(&log, p, [0; 3], 0, 20, 0);
+    }
+    assert_eq!(compare_with(&log, 512, [4_096; 3], 24).unprobed, 3);
+    assert_eq!(compare_with(&log, 1, [8; 3], 24).unprobed, 0);
+}
+
+#[test]
+fn each_work_room_short_by_one_is_refused_4_and_all_rooms_left_alone() {
+    for p in [1, 2, 32, 512] {
+        let need = probe_length(p);
+        for short in 0..3 {
+            let mut work = [need; 3];
+            work[short] = need - 1;
+            expect_refusal(&document_log(), p, work, 24, 4, 0);
+            work[short] = 0;
+            expect_refusal(&document_log(), p, work, 24, 4, 0);
+        }
+    }
+}
+
+#[test]
+fn a_short_work_room_is_refused_4_even_if_no_owner_is_probed() {
+    let unprobed = numbered(&[&draws([1]), &[], &draws([2])]).bytes();
+    expect_refusal(&unprobed, 32, [255, 256, 256], 24, 4, 0);
+    expect_refusal(&unprobed, 32, [256, 256, 8], 24, 4, 0);
+    let alone = numbered(&[&[]]).bytes();
+    expect_refusal(&alone, 512, [4_096, 4_095, 4_096], 0, 4, 0);
+    assert_eq!(compare_with(&alone, 512, [4_096; 3], 0).unprobed, 1);
+}
+
+#[test]
+fn work_rooms_end_at_0_even_if_no_search_was_made() {
+    let nothing_to_search =
+        [numbered(&[&draws([1, 2, 3])]), numbered(&[&[], &[], &[]]), numbered(&[&draws([1]), &draws([2])])];
+    for parts in &nothing_to_search {
+        assert_eq!(compare(parts, 3).pairs, 0);
+        assert_eq!(compare(parts, 512).pairs, 0);
+    }
+}
+
+#[test]
+fn a_result_room_below_4_c_times_c_minus_1_is_refused_5() {
+    for count in 2..=64usize {
+        let log = numbered(&vec![&[][..]; count]).bytes();
+        let need = 4 * count * (count - 1);
+        expect_refusal(&log, 1, [8; 3], need - 1, 5, 0);
+        expect_refusal(&log, 1, [8; 3], 0, 5, 0);
+        assert_eq!(compare_with(&log, 1, [8; 3], need).refusal, 0);
+        assert_eq!(compare_with(&log, 1, [8; 3], need + 1).refusal, 0);
+    }
+}
+
+#[test]
+fn refusals_come_in_the_order_log_20_4_5() {
+    let sound = document_log();
+    let wrong_mark = Parts { mark: *b"WARD", ..numbered(&[&[], &[]]) }.bytes();
+    expect_refusal(&wrong_mark, 0, [0; 3], 0, 12, 0);
+    expect_refusal(&wrong_mark, 32, [256; 3], 24, 12, 0);
+    expect_refusal(&sound, 0, [0; 3], 0, 20, 0);
+    expect_refusal(&sound, 513, [256; 3], 23, 20, 0);
+    expect_refusal(&sound, 32, [255; 3], 23, 4, 0);
+    expect_refusal(&sound, 32, [256; 3], 23, 5, 0);
+}
+
+#[test]
+fn every_choice_of_short_exact_and_longer_rooms() {
+    let log = document_log();
+    for p in [0, 2, 513] {
+        for code in 0..27 {
+            let work = [code % 3, code / 3 % 3, code / 9].map(|more| 15 + more);
+            for result in [0, 23, 24, 25] {
+                compare_with(&log, p, work, result);
+            }
+        }
+    }
+}
+
+#[test]
+fn refused_logs_carry_their_number_and_entry() {
+    let sound = numbered(&[&draws([1]), &draws([2]), &draws([3])]);
+    let mut repeated_id = sound.clone();
+    repeated_id.entries[2].id = 2;
+    let mut misplaced = sound.clone();
+    misplaced.entries[1].start = 0;
+    let mut odd = sound.clone();
+    odd.entries[2].length = 7;
+    let mut ends_late = sound.clone();
+    ends_late.entries[2].length = 16;
+    let cases = [
+        (sound.bytes()[..11].to_vec(), 10, 0),
+        (vec![0; 65_537], 11, 0),
+        (Parts { mark: [0; 4], ..sound.clone() }.bytes(), 12, 0),
+        (Parts { count: 65, ..sound.clone() }.bytes(), 13, 0),
+        (Parts { count: 2, ..sound.clone() }.bytes(), 14, 0),
+        (repeated_id.bytes(), 15, 2),
+        (misplaced.bytes(), 16, 1),
+        (odd.bytes(), 17, 2),
+        (ends_late.bytes(), 16, 3),
+    ];
+    for (log, number, entry) in cases {
+        expect_refusal(&log, 1, [8; 3], 24, number, entry);
+        expect_refusal(&log, 0, [0; 3], 0, number, entry);
+    }
+}
+
+#[test]
+fn what_the_rooms_held_before_does_not_matter() {
+    let mut generator = Generator::new(43);
+    for _ in 0..3_000 {
+        let parts = random_parts(&mut generator, 4, 6);
+        let need = numbers_needed(parts.entries.len());
+        let mut left_over = |length: usize| {
+            let numbers: Vec<u32> = (0..length).map(|_| generator.below(17) as u32).collect();
+            Room::holding(&numbers)
+        };
+        let mut rooms = Rooms {
+            suffix: left_over(16),
+            shift: left_over(17),
+            memory: left_over(18),
+            result: left_over(need),
+        };
+        let answer = rooms.check(&parts.bytes(), 2);
+        let found = check(&parts.bytes(), 2, &[16, 17, 18], need).expect("a sound log");
+        assert_eq!((answer.refusal, answer.unprobed), (0, found.unprobed));
+        rooms.assert_after_success(2, &found.result, "rooms in use before");
+    }
+}
+
+#[test]
+fn the_log_stays_as_it_was() {
+    let mut generator = Generator::new(44);
+    for _ in 0..500 {
+        let log = random_parts(&mut generator, 5, 6).bytes();
+        let before = log.clone();
+        let answer = Rooms::new([16; 3], numbers_needed(5)).check(&log, 2);
+        assert_eq!(answer.refusal, 0);
+        assert!(log == before, "the log was written to");
+    }
+}

@@ -1,0 +1,593 @@
+//! Both scans, compared with a search at every position and with their own steps: positions, windows,
+//! comparisons, every room, and what the calls refuse.
+
+use std::fmt::{self, Display, Formatter};
+
+use nahuitepol::Searched;
+use nahuitepol_tests::rooms::Room;
+use nahuitepol_tests::scans::{self, positions, Probe, Scan, LONGEST_STREAM};
+use nahuitepol_tests::words::{all_words_between, fibonacci, repeated, worst_probe, Generator};
+
+/// An answer in which every number is 0.
+const ZEROS: Searched =
+    Searched { refusal: 0, entry: 0, occurrences: 0, written: 0, windows: 0, comparisons: 0 };
+
+#[derive(Debug, Clone, Copy, PartialEq, Eq)]
+enum Scanner {
+    Plain,
+    Remembering,
+}
+
+use Scanner::{Plain, Remembering};
+
+const BOTH: [Scanner; 2] = [Plain, Remembering];
+
+impl Scanner {
+    /// Of the lengths of suffix, shift and memory room, those that the scan takes.
+    fn rooms_taken(self, work: &[usize; 3]) -> &[usize] {
+        match self {
+            Plain => &work[..2],
+            Remembering => work,
+        }
+    }
+}
+
+/// The rooms of a search. The plain scan takes no memory room, and must leave it alone.
+#[derive(Clone)]
+struct Rooms {
+    suffix: Room,
+    shift: Room,
+    memory: Room,
+    positions: Room,
+}
+
+impl Rooms {
+    fn new(work: [usize; 3], positions: usize) -> Rooms {
+        Rooms {
+            suffix: Room::new(work[0]),
+            shift: Room::new(work[1]),
+            memory: Room::new(work[2]),
+            positions: Room::new(positions),
+        }
+    }
+
+    fn search(&mut self, scanner: Scanner, x: &[u8], y: &[u8]) -> Searched {
+        let (suffix, shift) = (self.suffix.lend(), self.shift.lend());
+        match scanner {
+            Plain => nahuitepol::plain(x, y, suffix, shift, self.positions.lend()),
+            Remembering => {
+                nahuitepol::remember(x, y, suffix, shift, self.memory.lend(), self.positions.lend())
+            }
+        }
+    }
+
+    fn assert_untouched(&self, case: Case) {
+        assert!(self.suffix.is_untouched(), "suffix room: {case}");
+        assert!(self.shift.is_untouched(), "shift room: {case}");
+        assert!(self.memory.is_untouched(), "memory room: {case}");
+        assert!(self.positions.is_untouched(), "position room: {case}");
+    }
+
+    fn assert_after_success(&self, case: Case, probe: &Probe, written: &[u32]) {
+        let zeros = vec![0; probe.length()];
+        assert!(self.suffix.holds_just(&probe.suffix), "suffix room: {case}");
+        assert!(self.shift.holds_just(&probe.shift), "shift room: {case}");
+        match case.scanner {
+            Plain => assert!(self.memory.is_untouched(), "memory room: {case}"),
+            Remembering => assert!(self.memory.holds_just(&zeros), "memory room: {case}"),
+        }
+        assert!(self.positions.holds_just(written), "position room: {case}");
+    }
+}
+
+fn steps(scanner: Scanner, probe: &Probe, y: &[u8]) -> Scan {
+    match scanner {
+        Plain => probe.plain(y),
+        Remembering => probe.remember(y),
+    }
+}
+
+fn expected_answer(scan: &Scan, position_room: usize) -> Searched {
+    let occurrences = scan.positions.len();
+    Searched {
+        refusal: 0,
+        entry: 0,
+        occurrences: occurrences as u64,
+        written: occurrences.min(position_room) as u64,
+        windows: scan.windows,
+        comparisons: scan.comparisons,
+    }
+}
+
+/// A search, for messages.
+struct Case<'a> {
+    scanner: Scanner,
+    x: &'a [u8],
+    y: &'a [u8],
+}
+
+impl Display for Case<'_> {
+    fn fmt(&self, out: &mut Formatter) -> fmt::Result {
+        let Case { scanner, x, y } = self;
+        write!(out, "{scanner:?} scan, probe of {} bytes, stream of {}", x.len(), y.len())?;
+        if x.len() + y.len() <= 200 {
+            write!(out, ": {x:?} in {y:?}")?;
+        }
+        Ok(())
+    }
+}
+
+/// One search in these rooms, compared in its answer and in every entry of every room.
+fn compare_in(mut rooms: Rooms, scanner: Scanner, probe: &Probe, y: &[u8]) -> Searched {
+    let case = Case { scanner, x: &probe.x, y };
+    let scan = steps(scanner, probe, y);
+    let answer = rooms.search(scanner, &probe.x, y);
+    assert_eq!(answer, expected_answer(&scan, rooms.positions.length()), "{case}");
+    assert!(scan.positions == positions(&probe.x, y), "the steps miss a position: {case}");
+    rooms.assert_after_success(case, probe, &scan.positions[..answer.written as usize]);
+    answer
+}
+
+/// Both searches, each with work rooms that are longer than needed by `slack`.
+fn compare(probe: &Probe, y: &[u8], slack: usize, position_room: usize) {
+    let rooms = Rooms::new([probe.length() + slack; 3], position_room);
+    let plain = compare_in(rooms.clone(), Plain, probe, y);
+    let remembering = compare_in(rooms, Remembering, probe, y);
+    assert_demand_3(probe.length(), y.len(), plain, remembering);
+}
+
+fn compare_words(x: &[u8], y: &[u8]) {
+    compare(&Probe::new(x), y, 2, y.len());
+}
+
+/// Same windows and positions, never more comparisons than the plain scan, at most 2n − m + 1.
+fn assert_demand_3(m: usize, n: usize, plain: Searched, remembering: Searched) {
+    assert_eq!(remembering.windows, plain.windows);
+    assert_eq!(remembering.occurrences, plain.occurrences);
+    assert!(remembering.comparisons <= plain.comparisons);
+    if n >= m {
+        assert!(remembering.comparisons <= (2 * n - m + 1) as u64);
+    }
+}
+
+fn expect_refusal(scanner: Scanner, x: &[u8], y: &[u8], work: [usize; 3], number: u32) {
+    let mut rooms = Rooms::new(work, 5);
+    let answer = rooms.search(scanner, x, y);
+    let case = Case { scanner, x, y };
+    assert_eq!(answer, Searched { refusal: number, ..ZEROS }, "rooms {work:?}: {case}");
+    rooms.assert_untouched(case);
+}
+
+/// A row: probe, stream; positions, windows, plain and remembering comparisons.
+fn figure(x: &[u8], y: &[u8], found: &[u32], windows: u64, plain: u64, remembering: u64) {
+    for (scanner, comparisons) in [(Plain, plain), (Remembering, remembering)] {
+        let mut rooms = Rooms::new([x.len(); 3], found.len() + 1);
+        let answer = rooms.search(scanner, x, y);
+        let occurrences = found.len() as u64;
+        let expected =
+            Searched { refusal: 0, entry: 0, occurrences, written: occurrences, windows, comparisons };
+        let case = Case { scanner, x, y };
+        assert_eq!(answer, expected, "{case}");
+        assert!(rooms.positions.holds_just(found), "{case}");
+    }
+    compare_words(x, y);
+}
+
+#[test]
+fn the_six_rows_of_document_01() {
+    figure(b"aaaa", b"aaaaaa", &[0, 1, 2], 3, 12, 6);
+    figure(b"abab", b"ababab", &[0, 2], 2, 8, 6);
+    figure(b"abab", b"abbabab", &[3], 3, 9, 7);
+    figure(b"caaa", b"xcaaa", &[1], 2, 7, 5);
+    figure(b"caaa", b"xbaaaa", &[], 2, 7, 5);
+    figure(b"aab", b"aa", &[], 0, 0, 0);
+}
+
+#[test]
+fn a_remembered_length_does_not_outlive_its_place() {
+    figure(b"a", b"ab", &[0], 2, 2, 2);
+}
+
+#[test]
+fn the_shorter_length_is_kept_after_the_fourth_rule() {
+    figure(b"aaabaabaa", b"aaaaaabaaabaabaa", &[7], 4, 23, 14);
+}
+
+#[test]
+fn a_remembered_length_below_the_suffix_entry_does_not_stop_the_window() {
+    figure(b"aabaa", b"aaababaa", &[], 3, 8, 7);
+}
+
+#[test]
+fn equal_bytes_searched_for_their_first_256() {
+    let stream = vec![0; 61_440];
+    let found: Vec<u32> = (0..61_185).collect();
+    figure(&stream[..256], &stream, &found, 61_185, 15_663_360, 61_440);
+}
+
+#[test]
+fn all_two_letter_probes_up_to_6_bytes_in_all_streams_up_to_11() {
+    let streams: Vec<Vec<u8>> = all_words_between(2, 0, 11).collect();
+    for x in all_words_between(2, 1, 6) {
+        let probe = Probe::new(&x);
+        for (number, y) in streams.iter().enumerate() {
+            compare(&probe, y, number % 3, number % 5);
+        }
+    }
+}
+
+#[test]
+fn all_three_letter_probes_up_to_4_bytes_in_all_streams_up_to_6() {
+    let streams: Vec<Vec<u8>> = all_words_between(3, 0, 6).collect();
+    for x in all_words_between(3, 1, 4) {
+        let probe = Probe::new(&x);
+        for (number, y) in streams.iter().enumerate() {
+            compare(&probe, y, number % 3, number % 5);
+        }
+    }
+}
+
+#[test]
+fn random_short_probes_in_random_streams() {
+    let mut generator = Generator::new(10);
+    for _ in 0..40_000 {
+        let letters = generator.pick(&[2, 2, 3, 4, 256]);
+        let m = generator.between(1, 12);
+        let n = generator.between(0, 80);
+        let x = generator.word(letters, m);
+        compare_words(&x, &generator.word(letters, n));
+    }
+}
+
+#[test]
+fn probes_taken_out_of_the_stream() {
+    let mut generator = Generator::new(11);
+    for _ in 0..20_000 {
+        let letters = generator.pick(&[2, 3, 4, 256]);
+        let m = generator.between(1, 24);
+        let n = generator.between(m, 150);
+        let y = generator.word(letters, n);
+        compare_words(&generator.stretch(&y, m), &y);
+    }
+}
+
+#[test]
+fn long_probes_in_longer_streams() {
+    let mut generator = Generator::new(12);
+    for _ in 0..400 {
+        let letters = generator.pick(&[2, 3, 256]);
+        let m = generator.between(100, 400);
+        let n = generator.between(m, 6_000);
+        let mut y = generator.word(letters, n);
+        let x = generator.stretch(&y, m);
+        let copy = generator.below(n - m + 1);
+        y[copy..copy + m].copy_from_slice(&x);
+        compare_words(&x, &y);
+    }
+}
+
+#[test]
+fn periodic_probes_in_periodic_streams() {
+    let mut generator = Generator::new(13);
+    for _ in 0..12_000 {
+        let period = generator.between(1, 9);
+        let word = generator.word(2, period);
+        let m = generator.between(1, 40);
+        let n = generator.between(0, 200);
+        compare_words(&repeated(&word, m), &repeated(&word, n));
+    }
+}
+
+#[test]
+fn periodic_probes_in_periodic_streams_with_flaws() {
+    let mut generator = Generator::new(14);
+    for _ in 0..12_000 {
+        let period = generator.between(1, 7);
+        let word = generator.word(3, period);
+        let m = generator.between(1, 30);
+        let n = generator.between(m, 200);
+        let mut y = repeated(&word, n);
+        for _ in 0..generator.between(1, 4) {
+            let place = generator.below(n);
+            y[place] = generator.below(4) as u8;
+        }
+        compare_words(&repeated(&word, m), &y);
+    }
+}
+
+#[test]
+fn equal_bytes_are_compared_m_times_a_window_plainly_and_once_each_with_memory() {
+    for m in 1..=20 {
+        for n in m..=60 {
+            let stream = vec![b'a'; n];
+            let found: Vec<u32> = (0..=(n - m) as u32).collect();
+            let windows = found.len() as u64;
+            figure(&stream[..m], &stream, &found, windows, windows * m as u64, n as u64);
+        }
+    }
+}
+
+#[test]
+fn fibonacci_probes_in_a_fibonacci_stream() {
+    let stream = fibonacci(2_000);
+    for m in 1..=160 {
+        compare_words(&stream[..m], &stream);
+        compare_words(&stream[m..2 * m], &stream);
+    }
+}
+
+#[test]
+fn the_worst_family_repeated() {
+    for k in 1..=40 {
+        let x = worst_probe(k);
+        for length in [x.len(), x.len() + 1, 20 * x.len(), 20 * x.len() + k] {
+            compare_words(&x, &repeated(&x, length));
+        }
+    }
+}
+
+#[test]
+fn all_byte_values_are_told_apart() {
+    for byte in 0..=255u8 {
+        let others: Vec<u8> = (0..=255).filter(|&other| other != byte).collect();
+        compare_words(&[byte], &others);
+        compare_words(&[byte, byte], &[&others[..], &[byte, byte, byte]].concat());
+        compare_words(&[byte.wrapping_add(1), byte], &[byte, byte.wrapping_add(1), byte, byte]);
+    }
+}
+
+#[test]
+fn a_stream_shorter_than_the_probe_leaves_tables_zeros_and_four_zero_numbers() {
+    let mut generator = Generator::new(15);
+    for m in [1, 2, 3, 17, 256, 4_096] {
+        let probe = Probe::new(&generator.word(2, m));
+        for n in [0, m / 2, m - 1] {
+            for scanner in BOTH {
+                let rooms = Rooms::new([m + 1; 3], 3);
+                let answer = compare_in(rooms, scanner, &probe, &probe.x[..n]);
+                assert_eq!(answer, ZEROS, "m {m}, n {n}");
+            }
+        }
+    }
+}
+
+#[test]
+fn a_stream_as_long_as_the_probe_has_one_window() {
+    let mut generator = Generator::new(16);
+    for m in [1, 2, 3, 17, 256, 4_096] {
+        let probe = Probe::new(&generator.word(2, m));
+        for scanner in BOTH {
+            let answer = compare_in(Rooms::new([m; 3], 1), scanner, &probe, &probe.x);
+            assert_eq!((answer.occurrences, answer.windows, answer.comparisons), (1, 1, m as u64));
+        }
+    }
+}
+
+#[test]
+fn position_rooms_of_every_length_take_the_first_positions() {
+    let probe = Probe::new(b"aba");
+    let stream = repeated(b"ab", 21);
+    assert_eq!(positions(&probe.x, &stream).len(), 10);
+    for room in 0..=14 {
+        compare(&probe, &stream, 0, room);
+    }
+}
+
+#[test]
+fn a_short_position_room_keeps_the_total_true() {
+    let mut generator = Generator::new(17);
+    for _ in 0..3_000 {
+        let m = generator.between(1, 3);
+        let n = generator.between(0, 60);
+        let (x, y) = (generator.word(2, m), generator.word(2, n));
+        let total = positions(&x, &y).len();
+        for room in [0, 1, total.saturating_sub(1), total, total + 1, total + 9] {
+            compare(&Probe::new(&x), &y, 0, room);
+        }
+    }
+}
+
+#[test]
+fn what_the_rooms_held_before_does_not_matter() {
+    let mut generator = Generator::new(18);
+    for _ in 0..6_000 {
+        let m = generator.between(1, 10);
+        let n = generator.between(m, 60);
+        let probe = Probe::new(&generator.word(2, m));
+        let y = generator.word(2, n);
+        let mut left_over = |most: usize| {
+            let numbers: Vec<u32> = (0..m + 2).map(|_| generator.below(most + 1) as u32).collect();
+            Room::holding(&numbers)
+        };
+        let rooms = Rooms {
+            suffix: left_over(m),
+            shift: left_over(m),
+            memory: left_over(m),
+            positions: left_over(n),
+        };
+        for scanner in BOTH {
+            compare_in(rooms.clone(), scanner, &probe, &y);
+        }
+    }
+}
+
+#[test]
+fn one_search_after_another_in_the_same_rooms() {
+    let mut generator = Generator::new(19);
+    let (mut suffix, mut shift, mut memory, mut found) = ([0; 12], [0; 12], [0; 12], [0; 64]);
+    for _ in 0..20_000 {
+        let m = generator.between(1, 12);
+        let n = generator.between(0, 60);
+        let (x, y) = (generator.word(2, m), generator.word(2, n));
+        let answer = nahuitepol::remember(&x, &y, &mut suffix, &mut shift, &mut memory, &mut found);
+        let scan = Probe::new(&x).remember(&y);
+        assert_eq!(answer, expected_answer(&scan, 64), "{}", Case { scanner: Remembering, x: &x, y: &y });
+        assert_eq!(found[..scan.positions.len()], scan.positions);
+    }
+}
+
+#[test]
+fn the_inputs_stay_as_they_were() {
+    let mut generator = Generator::new(20);
+    for _ in 0..2_000 {
+        let (x, y) = (generator.word(2, 5), generator.word(2, 40));
+        let before = (x.clone(), y.clone());
+        for scanner in BOTH {
+            assert_eq!(Rooms::new([5; 3], 40).search(scanner, &x, &y).refusal, 0);
+            assert!((&x, &y) == (&before.0, &before.1), "the {scanner:?} scan wrote to an input");
+        }
+    }
+}
+
+#[test]
+fn demand_3_on_the_answers_alone() {
+    let mut generator = Generator::new(21);
+    for _ in 0..400 {
+        let letters = generator.pick(&[1, 2, 3, 4]);
+        let m = generator.between(1, 600);
+        let n = generator.between(0, 30_000);
+        let period = generator.pick(&[7, 60, 500, 30_000]);
+        let y = repeated(&generator.word(letters, period), n);
+        let x = if n >= m { generator.stretch(&y, m) } else { generator.word(letters, m) };
+        let mut plain_rooms = Rooms::new([m; 3], n);
+        let mut remembering_rooms = plain_rooms.clone();
+        let plain = plain_rooms.search(Plain, &x, &y);
+        let remembering = remembering_rooms.search(Remembering, &x, &y);
+        assert_eq!((plain.refusal, remembering.refusal), (0, 0));
+        assert_demand_3(m, n, plain, remembering);
+        assert!(plain_rooms.positions.lend() == remembering_rooms.positions.lend(), "positions");
+    }
+}
+
+#[test]
+fn a_probe_of_4096_bytes_in_a_stream_of_16777216() {
+    let mut generator = Generator::new(22);
+    let mut y = generator.word(4, LONGEST_STREAM);
+    let x = generator.stretch(&y, 4_096);
+    for start in [0, 4_095, 1_000_000, LONGEST_STREAM - 4_096] {
+        y[start..start + 4_096].copy_from_slice(&x);
+    }
+    compare(&Probe::new(&x), &y, 1, 10);
+}
+
+#[test]
+fn a_periodic_probe_of_4096_bytes_in_a_periodic_stream() {
+    let mut generator = Generator::new(23);
+    let word = generator.word(256, 40);
+    compare(&Probe::new(&repeated(&word, 4_096)), &repeated(&word, 300_000), 0, 10);
+}
+
+#[test]
+fn equal_bytes_at_the_greatest_length_pass_2_to_the_32_comparisons() {
+    let stream = vec![9; LONGEST_STREAM];
+    let m = 257;
+    let windows = (LONGEST_STREAM - m + 1) as u64;
+    assert!(windows * m as u64 > 1 << 32);
+    for (scanner, comparisons) in [(Plain, windows * m as u64), (Remembering, LONGEST_STREAM as u64)] {
+        let mut rooms = Rooms::new([m; 3], 3);
+        let answer = rooms.search(scanner, &stream[..m], &stream);
+        let expected =
+            Searched { refusal: 0, entry: 0, occurrences: windows, written: 3, windows, comparisons };
+        assert_eq!(answer, expected, "{scanner:?} scan");
+        assert!(rooms.positions.holds_just(&[0, 1, 2]), "{scanner:?} scan");
+    }
+}
+
+#[test]
+fn an_empty_probe_is_refused_1() {
+    for scanner in BOTH {
+        for y in [&b""[..], b"abc"] {
+            expect_refusal(scanner, b"", y, [0; 3], 1);
+            expect_refusal(scanner, b"", y, [4; 3], 1);
+        }
+    }
+}
+
+#[test]
+fn a_probe_over_4096_bytes_is_refused_2() {
+    for scanner in BOTH {
+        for m in [4_097, 8_192, 70_000] {
+            let x = vec![1; m];
+            expect_refusal(scanner, &x, b"", [m; 3], 2);
+            expect_refusal(scanner, &x, &x, [m - 1; 3], 2);
+        }
+    }
+}
+
+#[test]
+fn a_stream_over_16777216_bytes_is_refused_3() {
+    for n in [LONGEST_STREAM + 1, LONGEST_STREAM + 4_096] {
+        let y = vec![0; n];
+        for scanner in BOTH {
+            expect_refusal(scanner, b"abc", &y, [3; 3], 3);
+            expect_refusal(scanner, b"abc", &y, [2; 3], 3);
+        }
+    }
+}
+
+#[test]
+fn each_work_room_short_by_one_is_refused_4_and_all_rooms_left_alone() {
+    let mut generator = Generator::new(24);
+    for m in [1, 2, 3, 16, 255, 4_095, 4_096] {
+        let x = generator.word(2, m);
+        for scanner in BOTH {
+            for y in [&x[..0], &x[..]] {
+                expect_refusal(scanner, &x, y, [m - 1, m, m], 4);
+                expect_refusal(scanner, &x, y, [m, m - 1, m], 4);
+                expect_refusal(scanner, &x, y, [m - 1, m + 5, m + 5], 4);
+                expect_refusal(scanner, &x, y, [0, 0, 0], 4);
+            }
+        }
+        expect_refusal(Remembering, &x, &x, [m, m, m - 1], 4);
+        expect_refusal(Remembering, &x, &x, [m + 5, m + 5, 0], 4);
+    }
+}
+
+#[test]
+fn the_plain_scan_asks_for_no_memory_room() {
+    let probe = Probe::new(b"abab");
+    compare_in(Rooms::new([4, 4, 0], 2), Plain, &probe, b"ababab");
+}
+
+#[test]
+fn work_rooms_exact_and_longer_are_accepted() {
+    let mut generator = Generator::new(25);
+    for m in [1, 2, 5, 64] {
+        let probe = Probe::new(&generator.word(2, m));
+        let y = generator.word(2, 200);
+        for slack in [[0, 0, 0], [1, 0, 0], [0, 1, 0], [0, 0, 1], [9, 50, 300]] {
+            let work = slack.map(|more| m + more);
+            for scanner in BOTH {
+                compare_in(Rooms::new(work, 200), scanner, &probe, &y);
+            }
+        }
+    }
+}
+
+#[test]
+fn the_lowest_number_is_given_where_several_causes_hold() {
+    let too_long = vec![0; LONGEST_STREAM + 1];
+    let streams = [&b""[..], b"aabaab", &too_long];
+    for m in [0, 1, 3, 4_096, 4_097] {
+        let x = repeated(b"aab", m);
+        for y in streams {
+            for shortage in shortages() {
+                let work = shortage.map(|short| (m + 1).saturating_sub(short));
+                for scanner in BOTH {
+                    match scans::refusal(m, y.len(), scanner.rooms_taken(&work)) {
+                        Some(number) => expect_refusal(scanner, &x, y, work, number),
+                        None => {
+                            let answer = Rooms::new(work, 5).search(scanner, &x, y);
+                            assert_eq!(answer.refusal, 0, "{}", Case { scanner, x: &x, y });
+                        }
+                    }
+                }
+            }
+        }
+    }
+}
+
+/// How much three rooms fall short of one entry more than needed: each by 0, by 1 or by 2.
+fn shortages() -> impl Iterator<Item = [usize; 3]> {
+    (0..27).map(|code| [code % 3, code / 3 % 3, code / 9])
+}
