@@ -1,6 +1,10 @@
 -- The structs of the C interface, read as the libraries' answers. Assumes nothing.
 use Rattle.tables.specs.declared.Occurrences as tables
 use Rattle.scans.specs.declared.Answer as scans
+use Rattle.drawlog.specs.declared.Tested as tested
+use Rattle.drawlog.specs.declared.Found as found
+use Rattle.capi.specs.declared.logs.Tested.{Tested}
+use Rattle.capi.specs.declared.logs.Found.{Found}
 use Rattle.capi.specs.declared.probes.Occurrences.{Occurrences}
 use Rattle.capi.specs.declared.searches.Searched.{Searched}
 
@@ -10,3 +14,9 @@ occurrencesSeen r = record { refusal = r .refusal; table = r .table }
 -- without the entry number, which is 0
 abbrev pub answerSeen : Searched → scans.Answer
 answerSeen r = record { refusal = r .refusal; occurrences = r .occurrences; written = r .written; windows = r .windows; comparisons = r .comparisons }
+
+abbrev pub testedSeen : Tested → tested.Tested
+testedSeen r = record { refusal = r .refusal; entry = r .entry; count = r .count }
+
+abbrev pub foundSeen : Found → found.Found
+foundSeen r = record { refusal = r .refusal; entry = r .entry; start = r .start; length = r .length }
