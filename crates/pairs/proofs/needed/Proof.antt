@@ -1,4 +1,10 @@
+-- `needed` meets its contract: with at most 64 replicates no product wraps.
+-- Assumes nothing.
+use Prim.Native.Nat.{_-_, _*_, _≤_}
+use mathlib.Core.Path.{_≡_}
 use borrow.Author.Needs.{needs}
+use native.Mathlib.Nat.{mul-le-mul}
+use native.Mathlib.Omega.{arith}
 use Rattle.pairs.proofs.needed.Statement.{statement}
 use Rattle.pairs.proofs.needed.Tie as tie
 use Rattle.pairs.proofs.needed.Reads as reads
@@ -6,25 +12,24 @@ use Rattle.pairs.proofs.needed.Lts as lts
 use Rattle.basics.proofs.less.Reads as less-reads
 use Rattle.basics.proofs.wide.Reads as wide-reads
 
--- src/lib.rt:147:9
+-- c · (c − 1), as the code takes it
+product : (c : tie.After-less) → c .before .wide .result * c .less .result ≤ 64 * 64
+product c = mul-le-mul (omega (arith, c .before .wide .ensures)) (omega (arith, c .less .ensures, c .before .wide .ensures))
+
 wide-requires : tie.Need-wide-requires
 wide-requires c κs = search needs
 
--- src/lib.rt:148:17
 less-requires : tie.Need-less-requires
 less-requires c κs = search needs
 
--- src/lib.rt:148:13
 mul-result : tie.Need-mul-result
-mul-result c = ?
+mul-result c = omega (arith, product c)
 
--- src/lib.rt:148:5
 mul-result-2 : tie.Need-mul-result-2
-mul-result-2 c = ?
+mul-result-2 c = omega (arith, product c)
 
--- src/lib.rt:143:1
 returns : tie.Need-returns
-returns c = ?
+returns c = rw (c .less .ensures, c .before .wide .ensures)
 
 pub needed-spec : {M : Type 1} → statement M
 needed-spec = tie.close (tie.spec wide-requires less-requires mul-result mul-result-2 returns)

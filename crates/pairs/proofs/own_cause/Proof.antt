@@ -1,4 +1,9 @@
+-- `own_cause` meets its contract: the tests in their order.
+-- Assumes nothing.
+use mathlib.Core.Path.{sym}
 use borrow.Author.Needs.{needs}
+use native.Mathlib.Omega.{arith}
+use Rattle.pairs.specs.laws.Refusal.{refuses-low, refuses-high, refuses-work, refuses-result, refuses-none}
 use Rattle.pairs.proofs.own_cause.Statement.{statement}
 use Rattle.pairs.proofs.own_cause.Tie as tie
 use Rattle.pairs.proofs.own_cause.Reads as reads
@@ -6,33 +11,28 @@ use Rattle.pairs.proofs.own_cause.Lts as lts
 use Rattle.pairs.proofs.needed.Reads as needed-reads
 use Rattle.pairs.proofs.probe_size.Reads as probe-size-reads
 
--- src/lib.rt:120:9
 returns : tie.Need-returns
-returns c = ?
+returns c = sym (refuses-low _ _ _ _ (omega arith))
 
--- src/lib.rt:123:9
 returns-2 : tie.Need-returns-2
-returns-2 c = ?
+returns-2 c = sym (refuses-high _ _ _ _ (omega arith) (omega arith))
 
--- src/lib.rt:125:19
 probe-size-requires : tie.Need-probe-size-requires
 probe-size-requires c κs = search needs
 
--- src/lib.rt:126:9
 returns-3 : tie.Need-returns-3
-returns-3 c = ?
+returns-3 c = sym (refuses-work _ _ _ _ (omega arith) (omega arith) (omega (arith, c .before .probe-size .ensures)))
 
--- src/lib.rt:128:12
 needed-requires : tie.Need-needed-requires
 needed-requires c κs = search needs
 
--- src/lib.rt:129:9
 returns-4 : tie.Need-returns-4
-returns-4 c = ?
+returns-4 c =
+    sym (refuses-result _ _ _ _ (omega arith) (omega arith) (omega (arith, c .before .before .before .probe-size .ensures)) (omega (arith, c .before .needed .ensures)))
 
--- src/lib.rt:115:1
 returns-5 : tie.Need-returns-5
-returns-5 c = ?
+returns-5 c =
+    sym (refuses-none _ _ _ _ (omega arith) (omega arith) (omega (arith, c .before .before .before .probe-size .ensures)) (omega (arith, c .before .needed .ensures)))
 
 pub own-cause-spec : {M : Type 1} → statement M
 own-cause-spec =

@@ -1,4 +1,11 @@
+-- `pair` meets its contract: an owner makes no pair with itself, and else what the search of block b counts tells whether it makes one.
+-- Assumes nothing.
+use mathlib.Core.Path.{sym, _∙_}
 use borrow.Author.Needs.{needs}
+use native.Mathlib.Omega.{arith}
+use Rattle.pairs.specs.Promise.{step}
+use Rattle.pairs.specs.laws.Check.{with-self, with-none, with-some, id-is}
+use Rattle.pairs.specs.laws.Inside.{worked-none, found-none, found-one, sought}
 use Rattle.pairs.proofs.pair.Statement.{statement}
 use Rattle.pairs.proofs.pair.Tie as tie
 use Rattle.pairs.proofs.pair.Reads as reads
@@ -8,77 +15,98 @@ use Rattle.drawlog.proofs.entry.Reads as entry-reads
 use Rattle.pairs.proofs.put.Reads as put-reads
 use Rattle.scans.proofs.aligned.Reads as aligned-reads
 
--- src/lib.rt:258:9
 returns : tie.Need-returns
-returns c = ?
+returns c =
+    let s = c .before .before .before .before .before .before .before in
+    let a = s .args in
+    (found-none (with-self step (a .probe .now) (a .log .now) (a .a) (a .b) (c .if1 .taken)) (s .pre .0 .3), worked-none)
 
--- src/lib.rt:260:9
 block-at-requires : tie.Need-block-at-requires
 block-at-requires c κs = search needs
 
--- src/lib.rt:261:9
 aligned-requires : tie.Need-aligned-requires
 aligned-requires c κs = search needs
 
--- src/lib.rt:263:9
 same-length : tie.Need-same-length
 same-length c = search needs
 
--- src/lib.rt:263:9
 same-length-2 : tie.Need-same-length-2
 same-length-2 c = search needs
 
--- src/lib.rt:263:9
 same-length-3 : tie.Need-same-length-3
 same-length-3 c = search needs
 
--- src/lib.rt:263:9
 returns-2 : tie.Need-returns-2
-returns-2 c = ?
+returns-2 c =
+    let call = c .before .before .before .before .before .before .before .before in
+    let block = call .before .before .before .before in
+    let s = block .before .before .before .before .before .before .before .before in
+    let a = s .args in
+    let g = sought (a .log .now) (a .b) (s .pre .0 .1) (block .block-at .ensures .bytes) (call .aligned .ensures) (s .pre .1 .1) in
+    (found-none (with-none step (a .probe .now) (a .log .now) (a .a) (a .b) (block .before .if1 .left) (sym (g .number) ∙ c .if2 .taken)) (s .pre .0 .3), g .worked)
 
--- src/lib.rt:265:9
 entry-requires : tie.Need-entry-requires
 entry-requires c κs = search needs
 
--- src/lib.rt:266:9
 entry-requires-2 : tie.Need-entry-requires-2
 entry-requires-2 c κs = search needs
 
--- src/lib.rt:267:44
 cast-put : tie.Need-cast-put
-cast-put c = ?
+cast-put c =
+    let call = c .before .before .before .before .before .before .before .before .before .before .before .before in
+    let block = call .before .before .before .before in
+    let s = block .before .before .before .before .before .before .before .before in
+    omega (arith, sought (s .args .log .now) (s .args .b) (s .pre .0 .1) (block .block-at .ensures .bytes) (call .aligned .ensures) (s .pre .1 .1) .near)
 
--- src/lib.rt:267:63
 cast-put-2 : tie.Need-cast-put-2
-cast-put-2 c = ?
+cast-put-2 c =
+    let call = c .before .before .before .before .before .before .before .before .before .before .before .before .before in
+    let block = call .before .before .before .before in
+    let s = block .before .before .before .before .before .before .before .before in
+    omega (arith, sought (s .args .log .now) (s .args .b) (s .pre .0 .1) (block .block-at .ensures .bytes) (call .aligned .ensures) (s .pre .1 .1) .few)
 
--- src/lib.rt:267:5
 put-requires : tie.Need-put-requires
-put-requires c κs = ?
+put-requires c κs =
+    let s = c .before .before .before .before .before .before .before .before .before .before .before .before .before .before .before .before .before .before .before .before .before .before .before .before .before in
+    let if1 = c .before .before .before .before .before .before .before .before .before .before .before .before .before .before .before .before .before .before in
+    s .pre .1 .0 (if1 .if1 .left)
 
--- src/lib.rt:268:5
 add-result : tie.Need-add-result
-add-result c = ?
+add-result c =
+    let s = c .before .before .before .before .before .before .before .before .before .before .before .before .before .before .before .before .before .before .before .before .before .before .before .before .before .before .before .before in
+    omega (arith, s .pre .0)
 
--- src/lib.rt:240:1
 same-length-4 : tie.Need-same-length-4
 same-length-4 c = search needs
 
--- src/lib.rt:240:1
 same-length-5 : tie.Need-same-length-5
 same-length-5 c = search needs
 
--- src/lib.rt:240:1
 same-length-6 : tie.Need-same-length-6
 same-length-6 c = search needs
 
--- src/lib.rt:240:1
 same-length-7 : tie.Need-same-length-7
 same-length-7 c = search needs
 
--- src/lib.rt:240:1
 returns-3 : tie.Need-returns-3
-returns-3 c = ?
+returns-3 c =
+    let put = c .before .before in
+    let other = put .before .before .before .before in
+    let call = other .before .before .before .before .before .before .before .before .before .before in
+    let block = call .before .before .before .before in
+    let s = block .before .before .before .before .before .before .before .before in
+    let a = s .args in
+    let g = sought (a .log .now) (a .b) (s .pre .0 .1) (block .block-at .ensures .bytes) (call .aligned .ensures) (s .pre .1 .1) in
+    (
+      found-one
+      (with-some step (a .probe .now) (a .log .now) (a .a) (a .b) (block .before .if1 .left) (λ z. other .before .before .if2 .left (g .number ∙ z)))
+      (put .put .ensures)
+      (id-is (a .log .now) (a .a) (s .pre .0 .0) (other .before .entry .ensures))
+      (id-is (a .log .now) (a .b) (s .pre .0 .1) (other .entry2 .ensures))
+      (g .first)
+      (g .number),
+      g .worked,
+    )
 
 pub pair-spec : {M : Type 1} → statement M
 pair-spec =

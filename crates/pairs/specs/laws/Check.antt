@@ -10,8 +10,9 @@ use native.Mathlib.Omega.{arith}
 use borrow.Author.Tests.{eq-eqb, ne-eqb, le-leb, lt-leb}
 use lib.Dec.{eqb, leb}
 use lib.ListN.{length, take, drop, length-append, length-take, length-drop}
-use Rattle.basics.specs.laws.Tests.{bool-case, eqb-case}
+use Rattle.basics.specs.laws.Tests.{bool-case, le-or-lt}
 use Rattle.scans.specs.Occurrences.{occurrences, multiples, firstOf}
+use Rattle.drawlog.specs.declared.Listed.{Listed}
 use Rattle.drawlog.specs.Log.{count, idAt, startAt, lengthAt}
 use Rattle.drawlog.specs.Promise.{testedOf, listedOf}
 use Rattle.drawlog.specs.laws.Promise.{listed-at, listed-within, holding}
@@ -38,6 +39,9 @@ module _ (s : List ℕ) (k : ℕ) (h : k < testedOf s .count) where
 
   pub block-short : length (block s k) ≤ 65536
   block-short = simp (length-take, length-drop) (omega (arith, holding s k h .good .frame .short))
+
+  pub id-is : {l : Listed} → l ≡ listedOf s k → l .id ≡ idAt s k
+  id-is e = ap (λ (l : Listed). l .id) (e ∙ listed-at s k h)
 
   pub count-is : testedOf s .count ≡ count s
   count-is = holding s k h .number
@@ -114,6 +118,14 @@ module _ (d : ℕ) (x s : List ℕ) (a : ℕ) where
       (λ (e : a ≡ b). omega (arith, with-few b, ap length (with-self d x s a b e)))
       (λ (l : a < b). omega (arith, with-fewer b l, with-le d x s a b))
       (eq-or-lt-of-le (le-of-suc-le-suc h)))
+
+  -- so there is room for one more before any other block b
+  pub with-room : (b n : ℕ) → (a ≡ b → ⊥) → a < n → b < n → length (pairsWith d x s a b) + 1 ≤ n - 1
+  with-room b n other h l =
+      ⊎-elim
+      (λ (u : a ≤ b). ⊎-elim (λ (e : a ≡ b). absurd (other e)) (λ (v : a < b). omega (arith, with-fewer b v)) (eq-or-lt-of-le u))
+      (λ (u : b < a). omega (arith, with-few b))
+      (le-or-lt a b)
 
 -- probed or not
 module _ (d p : ℕ) (s : List ℕ) (a : ℕ) where

@@ -1,17 +1,21 @@
 -- Laws of what the private functions hand on: the work rooms, and the pairs found so far. Assumes nothing.
 use mathlib.Core.Path.{_≡_, refl, sym, ap, _∙_}
 use mathlib.Core.List.{List, [], _∷_, _++_}
-use Prim.Native.Nat.{ℕ, _+_, _*_, _≤_, min}
+use Prim.Native.Nat.{ℕ, _+_, _*_, _≤_, _<_, min}
 use native.Mathlib.Nat.{add-zero}
 use native.Mathlib.Omega.{arith}
-use lib.ListN.{length, drop, replicate, length-append, length-replicate}
+use lib.ListN.{length, take, drop, replicate, length-append, length-replicate}
 use Rattle.basics.specs.Rooms.{front}
+use Rattle.scans.specs.declared.Tally.{Tally}
+use Rattle.scans.specs.Occurrences.{occurrences, multiples, firstOf}
+use Rattle.scans.specs.Promise.{Aligning}
 use Rattle.scans.specs.laws.Refusal.{Accepted}
-use Rattle.scans.specs.laws.Search.{Beyond, Counted}
-use Rattle.pairs.specs.Check.{Pair, numbers}
+use Rattle.scans.specs.laws.Search.{Beyond, counted}
+use Rattle.drawlog.specs.Promise.{testedOf, listedOf}
+use Rattle.pairs.specs.Check.{block, Pair, numbers}
 use Rattle.pairs.specs.Inside.{Laid, Worked, Ready, Found}
 use Rattle.pairs.specs.laws.Laid.{laid-length, laid-none, laid-then}
-use Rattle.pairs.specs.laws.Check.{numbers-append, length-numbers}
+use Rattle.pairs.specs.laws.Check.{numbers-append, length-numbers, block-is, block-short}
 
 -- WORK ROOMS
 beyond-none : {n : ℕ} {d : List ℕ} → Beyond n d d
@@ -56,14 +60,40 @@ pub found-none : {qs : List Pair} {k : ℕ} {d : List ℕ} → qs ≡ [] → 4 *
 unfolding numbers
 found-none {qs} {k} {d} e l = rw e (record { number = sym (add-zero k); laid = laid-none d (4 * k) l })
 
-pub found-one : {qs : List Pair} {q : Pair} {k : ℕ} {d d′ : List ℕ} → qs ≡ q ∷ [] → Laid d (4 * k) (q .owner ∷ q .other ∷ q .first ∷ q .number ∷ []) d′
-    → Found qs k d (k + 1) d′
+pub found-one : {qs : List Pair} {q : Pair} {k u v w x : ℕ} {d d′ : List ℕ} → qs ≡ q ∷ [] → Laid d (4 * k) (u ∷ v ∷ w ∷ x ∷ []) d′
+    → u ≡ q .owner → v ≡ q .other → w ≡ q .first → x ≡ q .number → Found qs k d (k + 1) d′
 unfolding numbers
-found-one e l = rw e (record { number = refl; laid = l })
+found-one e l eu ev ew ex = rw e (record { number = refl; laid = rw (eu, ev, ew, ex) at l })
 
-pub found-then : {qs rs : List Pair} {k k₁ k₂ : ℕ} {d d₁ d₂ : List ℕ} → Found qs k d k₁ d₁ → Found rs k₁ d₁ k₂ d₂ → Found (qs ++ rs) k d k₂ d₂
-found-then {qs} {rs} {k} {k₁} {k₂} {d} {d₁} {d₂} u v =
-    record {
+pub found-then : {qs rs ts : List Pair} {k k₁ k₂ : ℕ} {d d₁ d₂ : List ℕ} → qs ++ rs ≡ ts → Found qs k d k₁ d₁ → Found rs k₁ d₁ k₂ d₂ → Found ts k d k₂ d₂
+found-then {qs} {rs} {ts} {k} {k₁} {k₂} {d} {d₁} {d₂} e u v =
+    rw (← e)
+    (record {
       number = rw (length-append qs rs) (omega (arith, u .number, v .number));
       laid = rw (numbers-append qs rs) (laid-then (u .laid) (omega (arith, u .number, length-numbers qs)) (v .laid));
+    })
+
+-- they lie within the result room
+pub found-within : {qs : List Pair} {k k′ : ℕ} {d d′ : List ℕ} → Found qs k d k′ d′ → 4 * k′ ≤ length d
+found-within {qs} g = omega (arith, g .number, g .laid .room, length-numbers qs)
+
+-- ONE SEARCH in block b: what it tells of the pair, and of the work rooms
+pub record Sought (d : ℕ) (x s : List ℕ) (b : ℕ) (f h e : List ℕ) (r : Tally) (f′ h′ e′ : List ℕ) : Type 0 where
+  pub number : r .number ≡ length (multiples d (occurrences x (block s b)))
+  pub first : r .first ≡ firstOf (multiples d (occurrences x (block s b)))
+  pub few : r .number ≤ 65537
+  pub near : r .first ≤ 65536
+  pub worked : Worked (length x) f h e f′ h′ e′
+
+pub sought : {d : ℕ} {x y f h e : List ℕ} {r : Tally} {f′ h′ e′ : List ℕ} (s : List ℕ) (b : ℕ) → b < testedOf s .count
+    → y ≡ take (listedOf s b .length) (drop (listedOf s b .start) s) → Aligning x y f h e d r f′ h′ e′ → Ready (length x) f h e → Sought d x s b f h e r f′ h′ e′
+sought {d} {x} {y} s b there e g ready =
+    let q : y ≡ block s b = e ∙ block-is s b there in
+    let t = counted (rw q at g) (ready-accepted (length (block s b)) ready (block-short s b there)) in
+    record {
+      number = t .number;
+      first = t .first;
+      few = omega (arith, t .few, block-short s b there);
+      near = omega (arith, t .near, block-short s b there);
+      worked = record { suffix = t .suffix; shift = t .shift; memory = t .memory };
     }
