@@ -6,3 +6,5 @@ pub mod Check
 pub mod Inside
 -- the causes of refusal, one by one
 pub mod Refusal
+-- from what was found to what the check promises
+pub mod Promise

@@ -14,7 +14,7 @@ use Rattle.basics.proofs.wide.Reads as wide-reads
 
 -- c · (c − 1), as the code takes it
 product : (c : tie.After-less) → c .before .wide .result * c .less .result ≤ 64 * 64
-product c = mul-le-mul (omega (arith, c .before .wide .ensures)) (omega (arith, c .less .ensures, c .before .wide .ensures))
+product c = mul-le-mul {n₂ = 64} {m₂ = 64} (omega (arith, c .before .wide .ensures)) (omega (arith, c .less .ensures, c .before .wide .ensures))
 
 wide-requires : tie.Need-wide-requires
 wide-requires c κs = search needs

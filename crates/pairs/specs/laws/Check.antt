@@ -4,19 +4,23 @@ use mathlib.Core.Logic.{⊎-elim}
 use mathlib.Core.Bool.{Bool, true, false, cond}
 use mathlib.Core.List.{List, [], _∷_, _++_}
 use Prim.Native.Nat.{ℕ, zero, suc, _+_, _-_, _*_, _≤_, _<_, zero-le}
-use native.Mathlib.Nat.{eq-or-lt-of-le, le-of-suc-le-suc}
+use native.Mathlib.Nat.{eq-or-lt-of-le, le-of-suc-le-suc, mul-le-mul, mul-le-mul-right}
 use native.Mathlib.Numerals.{add-one}
 use native.Mathlib.Omega.{arith}
 use borrow.Author.Tests.{eq-eqb, ne-eqb, le-leb, lt-leb}
 use lib.Dec.{eqb, leb}
 use lib.ListN.{length, take, drop, length-append, length-take, length-drop}
-use Rattle.basics.specs.laws.Tests.{bool-case, le-or-lt}
+use Rattle.basics.specs.laws.Tests.{bool-case, equal-or-not, le-or-lt}
 use Rattle.scans.specs.Occurrences.{occurrences, multiples, firstOf}
 use Rattle.drawlog.specs.declared.Listed.{Listed}
+use Rattle.drawlog.specs.declared.Tested.{Tested}
 use Rattle.drawlog.specs.Log.{count, idAt, startAt, lengthAt}
+use Rattle.drawlog.specs.Refusal.{causeOf}
 use Rattle.drawlog.specs.Promise.{testedOf, listedOf}
-use Rattle.drawlog.specs.laws.Promise.{listed-at, listed-within, holding}
+use Rattle.drawlog.specs.laws.Refusal.{accepted-is}
+use Rattle.drawlog.specs.laws.Promise.{tested-yes, tested-no, listed-at, listed-within, holding}
 use Rattle.pairs.specs.Check.{block, probeSize, probe, probed, Pair, pairAt, pairWith, pairsWith, pairsOf, pairs, unprobed, numbers}
+use Rattle.pairs.specs.Refusal.{needed}
 
 -- THE NUMBERS, four for each pair
 pub numbers-append : (qs rs : List Pair) → numbers (qs ++ rs) ≡ numbers qs ++ numbers rs
@@ -37,6 +41,13 @@ module _ (s : List ℕ) (k : ℕ) (h : k < testedOf s .count) where
   pub block-length : length (block s k) ≡ lengthAt s k
   block-length = simp (length-take, length-drop) (omega (arith, rw (listed-at s k h) at (listed-within s k)))
 
+  -- the same of the stretch y that the log hands out for it, and of what is cut off it as a probe of n bytes
+  pub handed-length : {y : List ℕ} → y ≡ take (listedOf s k .length) (drop (listedOf s k .start) s) → length y ≡ lengthAt s k
+  handed-length e = ap length (e ∙ block-is) ∙ block-length
+
+  pub handed-probe : {y : List ℕ} (p n : ℕ) → y ≡ take (listedOf s k .length) (drop (listedOf s k .start) s) → n ≡ probeSize p → take n y ≡ probe p s k
+  handed-probe p n e q = rw q (ap (take (probeSize p)) (e ∙ block-is))
+
   pub block-short : length (block s k) ≤ 65536
   block-short = simp (length-take, length-drop) (omega (arith, holding s k h .good .frame .short))
 
@@ -48,6 +59,22 @@ module _ (s : List ℕ) (k : ℕ) (h : k < testedOf s .count) where
 
   pub few-entries : count s ≤ 64
   few-entries = holding s k h .good .frame .few
+
+-- and of any log
+module _ (s : List ℕ) where
+  pub tested-few : testedOf s .count ≤ 64
+  tested-few =
+      ⊎-elim
+      (λ (h : causeOf s .refusal ≡ 0). omega (arith, ap (λ (t : Tested). t .count) (tested-yes s h), accepted-is s h .frame .few))
+      (λ (h : causeOf s .refusal ≡ 0 → ⊥). omega (arith, ap (λ (t : Tested). t .count) (tested-no s h)))
+      (equal-or-not (causeOf s .refusal) 0)
+
+  pub tested-count : testedOf s .refusal ≡ 0 → testedOf s .count ≡ count s
+  tested-count z =
+      ⊎-elim
+      (λ (h : causeOf s .refusal ≡ 0). ap (λ (t : Tested). t .count) (tested-yes s h))
+      (λ (h : causeOf s .refusal ≡ 0 → ⊥). absurd (h (sym (ap (λ (t : Tested). t .refusal) (tested-no s h)) ∙ z)))
+      (equal-or-not (causeOf s .refusal) 0)
 
 -- ONE PAIR, as the code finds it
 pair-none : (i j : ℕ) (fs : List ℕ) → length fs ≡ 0 → pairAt i j fs ≡ []
@@ -133,6 +160,13 @@ module _ (d p : ℕ) (s : List ℕ) (a : ℕ) where
   unfolding pairsOf
   of-probed h = rw (le-leb (probeSize p) (lengthAt s a) h)
 
+  -- as the code searches, with the probe cut off the stretch y, and with c blocks
+  pub of-handed : {y : List ℕ} (n c : ℕ) → a < testedOf s .count → y ≡ take (listedOf s a .length) (drop (listedOf s a .start) s) → n ≡ probeSize p → n ≤ length y
+      → c ≡ testedOf s .count → pairsWith d (take n y) s a c ≡ pairsOf d p s a
+  of-handed {y} n c h e q l u =
+      let v : c ≡ count s = u ∙ count-is s a h in
+      rw (handed-probe s a h p n e q, v) (sym (of-probed (omega (arith, handed-length s a h e))))
+
   pub of-unprobed : lengthAt s a < probeSize p → pairsOf d p s a ≡ []
   unfolding pairsOf
   of-unprobed h = rw (lt-leb (probeSize p) (lengthAt s a) h)
@@ -165,6 +199,14 @@ module _ (d p : ℕ) (s : List ℕ) where
   pairs-few zero h = zero-le
   pairs-few (suc a) h =
       rw (length-append (pairs d p s a) (pairsOf d p s a)) (omega (arith, pairs-few a (omega arith), of-few d p s a h))
+
+  -- so there is room for the pairs of one owner more
+  pub pairs-room : (a c : ℕ) → a < c → c ≡ count s → c ≤ 64 → (4 * (length (pairs d p s a) + (c - 1)) ≤ needed c) × (length (pairs d p s a) ≤ 4096)
+  pairs-room a c h e l =
+      let few : length (pairs d p s a) ≤ a * (c - 1) = rw e (pairs-few a (omega arith)) in
+      let more : suc a * (c - 1) ≤ c * (c - 1) = mul-le-mul-right (c - 1) h in
+      let most : a * (c - 1) ≤ 64 * 64 = mul-le-mul {n₁ = a} {m₁ = c - 1} {n₂ = 64} {m₂ = 64} (omega arith) (omega arith) in
+      (omega arith, omega arith)
 
 module _ (p : ℕ) (s : List ℕ) where
   pub unprobed-first : unprobed p s 0 ≡ 0
