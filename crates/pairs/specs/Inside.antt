@@ -1,7 +1,7 @@
 -- Words of the private functions' contracts. Assumes nothing.
 use mathlib.Core.Path.{_≡_}
 use mathlib.Core.List.{List, _++_}
-use Prim.Native.Nat.{ℕ, _+_, _*_, _≤_, _<_}
+use Prim.Native.Nat.{ℕ, _+_, _*_, _≤_}
 use lib.ListN.{length, take, drop}
 use Rattle.scans.specs.laws.Search.{Beyond}
 use Rattle.pairs.specs.Check.{Pair, numbers}

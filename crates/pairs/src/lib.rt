@@ -12,18 +12,18 @@
 ghost use mathlib.Core.Path.{_≡_};
 ghost use Prim.Native.Nat.{_+_, _*_, _-_, _≤_, _<_};
 ghost use mathlib.Core.Bool.{cond};
-ghost use mathlib.Core.List.{List, [], _∷_};
+ghost use mathlib.Core.List.{[], _∷_};
 ghost use lib.ListN.{length, replicate};
 ghost use Rattle.basics.specs.Rooms.{front};
-ghost use Rattle.drawlog.specs.Log.{idAt};
 ghost use Rattle.drawlog.specs.Promise.{testedOf};
 ghost use Rattle.pairs.specs.Check.{probeSize, probed, pairWith, pairsWith, pairsOf, pairs, unprobed};
 ghost use Rattle.pairs.specs.Refusal.{needed, ownCause, causeOf};
 ghost use Rattle.pairs.specs.Promise.{step, Checking};
 ghost use Rattle.pairs.specs.Inside.{Laid, Worked, Ready, Found};
-
 use basics::wide;
-use drawlog::{Cause, Log, Tested};
+use drawlog::Cause;
+use drawlog::Log;
+use drawlog::Tested;
 
 // The fewest and the most draws of a probe.
 pub const SHORTEST: u32 = 1;
@@ -203,7 +203,17 @@ fn owner(
         };
     }
     let probe = &block[..size];
-    let pairs = others(log, count, a, probe, done.pairs, suffix, shift, memory, result);
+    let pairs = others(
+        log,
+        count,
+        a,
+        probe,
+        done.pairs,
+        suffix,
+        shift,
+        memory,
+        result,
+    );
     Done {
         pairs,
         unprobed: done.unprobed,
@@ -264,7 +274,14 @@ fn pair(
     }
     let owner = drawlog::entry(log, a);
     let other = drawlog::entry(log, b);
-    put(result, pairs, owner.id, other.id, hits.first as u32, hits.number as u32);
+    put(
+        result,
+        pairs,
+        owner.id,
+        other.id,
+        hits.first as u32,
+        hits.number as u32,
+    );
     pairs + 1
 }
 

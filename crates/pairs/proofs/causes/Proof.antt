@@ -5,9 +5,6 @@ use borrow.Author.Needs.{needs}
 use Rattle.pairs.specs.laws.Refusal.{cause-log, cause-own}
 use Rattle.pairs.proofs.causes.Statement.{statement}
 use Rattle.pairs.proofs.causes.Tie as tie
-use Rattle.pairs.proofs.causes.Reads as reads
-use Rattle.pairs.proofs.causes.Lts as lts
-use Rattle.pairs.proofs.own_cause.Reads as own-cause-reads
 
 returns : tie.Need-returns
 returns c = sym (cause-log _ _ _ _ (c .if1 .taken))

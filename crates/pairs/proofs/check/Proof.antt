@@ -1,6 +1,6 @@
 -- `check` meets its contract: a cause refuses and nothing is touched, or the owners' pairs are found and the work rooms cleared.
 -- Assumes nothing.
-use Prim.Native.Nat.{_≤_, min}
+use Prim.Native.Nat.{min}
 use mathlib.Core.Path.{_≡_, ap, _∙_}
 use borrow.Author.Needs.{needs}
 use native.Mathlib.Omega.{arith}
@@ -12,14 +12,6 @@ use Rattle.pairs.specs.laws.Check.{tested-few}
 use Rattle.pairs.specs.laws.Promise.{cause-is, refused-is, Granted, granted, done-is}
 use Rattle.pairs.proofs.check.Statement.{statement}
 use Rattle.pairs.proofs.check.Tie as tie
-use Rattle.pairs.proofs.check.Reads as reads
-use Rattle.pairs.proofs.check.Lts as lts
-use Rattle.basics.proofs.smaller.Reads as smaller-reads
-use Rattle.drawlog.proofs.test.Reads as test-reads
-use Rattle.pairs.proofs.causes.Reads as causes-reads
-use Rattle.pairs.proofs.clear.Reads as clear-reads
-use Rattle.pairs.proofs.owners.Reads as owners-reads
-use Rattle.pairs.proofs.probe_size.Reads as probe-size-reads
 
 -- the cause that was found is the definition's
 caused : (c : tie.After-causes) → let a = c .before .before .before .before .before .before .before .before .before .args in c .causes .result ≡ cause (a .log .now) (a .p) (a .suffix .now) (a .shift .now) (a .memory .now) (a .result .now)

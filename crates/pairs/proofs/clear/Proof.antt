@@ -8,8 +8,6 @@ use lib.ListN.{length, set, drop, replicate, length-set, length-replicate}
 use borrow.Author.Fill.{fill-none, fill-more}
 use Rattle.pairs.proofs.clear.Statement.{statement}
 use Rattle.pairs.proofs.clear.Tie as tie
-use Rattle.pairs.proofs.clear.Reads as reads
-use Rattle.pairs.proofs.clear.Lts as lts
 
 abbrev Inv-loop : tie.InvT-loop
 Inv-loop room₀ n i₀ room i = (i ≤ n) × (length room ≡ length room₀) × (room ≡ replicate i 0 ++ drop i room₀)

@@ -1,16 +1,11 @@
 -- `needed` meets its contract: with at most 64 replicates no product wraps.
 -- Assumes nothing.
-use Prim.Native.Nat.{_-_, _*_, _≤_}
-use mathlib.Core.Path.{_≡_}
+use Prim.Native.Nat.{_*_, _≤_}
 use borrow.Author.Needs.{needs}
 use native.Mathlib.Nat.{mul-le-mul}
 use native.Mathlib.Omega.{arith}
 use Rattle.pairs.proofs.needed.Statement.{statement}
 use Rattle.pairs.proofs.needed.Tie as tie
-use Rattle.pairs.proofs.needed.Reads as reads
-use Rattle.pairs.proofs.needed.Lts as lts
-use Rattle.basics.proofs.less.Reads as less-reads
-use Rattle.basics.proofs.wide.Reads as wide-reads
 
 -- c · (c − 1), as the code takes it
 product : (c : tie.After-less) → c .before .wide .result * c .less .result ≤ 64 * 64

@@ -13,9 +13,6 @@ use Rattle.pairs.specs.laws.Check.{count-is, few-entries, with-first, wi
 use Rattle.pairs.specs.laws.Inside.{worked-none, worked-then, ready-again, found-none, found-then, found-length, found-within}
 use Rattle.pairs.proofs.others.Statement.{statement}
 use Rattle.pairs.proofs.others.Tie as tie
-use Rattle.pairs.proofs.others.Reads as reads
-use Rattle.pairs.proofs.others.Lts as lts
-use Rattle.pairs.proofs.pair.Reads as pair-reads
 
 abbrev Inv-loop : tie.InvT-loop
 Inv-loop log count a probe pairs suffix₀ shift₀ memory₀ result₀ found₀ b₀ suffix shift memory result found b =
@@ -36,8 +33,7 @@ pair-requires c κs =
     let s = l .before .before .before .before .before .before .before in
     let a = s .args in
     let i = l .loop .inv in
-    let h : a .a < testedOf (a .log .now) .count = omega (arith, s .pre .0) in
-    (
+    let h : a .a < testedOf (a .log .now) .count = omega (arith, s .pre .0) in (
       (
         h,
         omega (arith, s .pre .0),
@@ -61,8 +57,7 @@ loop-again c =
     let call = c .before .before .before .before .before .before .before .before in
     let l = call .before .before .before .before .before .before in
     let a = l .before .before .before .before .before .before .before .args in
-    let i = l .loop .inv in
-    (
+    let i = l .loop .inv in (
       omega arith,
       found-then (with-next step (a .probe .now) (a .log .now) (a .a) (l .loop .b)) (i .1) (call .pair .ensures .0),
       worked-then (i .2) (call .pair .ensures .1),

@@ -6,10 +6,6 @@ use native.Mathlib.Omega.{arith}
 use Rattle.pairs.specs.laws.Refusal.{refuses-low, refuses-high, refuses-work, refuses-result, refuses-none}
 use Rattle.pairs.proofs.own_cause.Statement.{statement}
 use Rattle.pairs.proofs.own_cause.Tie as tie
-use Rattle.pairs.proofs.own_cause.Reads as reads
-use Rattle.pairs.proofs.own_cause.Lts as lts
-use Rattle.pairs.proofs.needed.Reads as needed-reads
-use Rattle.pairs.proofs.probe_size.Reads as probe-size-reads
 
 returns : tie.Need-returns
 returns c = sym (refuses-low _ _ _ _ (omega arith))

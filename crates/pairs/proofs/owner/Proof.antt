@@ -15,11 +15,6 @@ use Rattle.pairs.specs.laws.Check.{handed-length, of-handed, of-unprobed
 use Rattle.pairs.specs.laws.Inside.{worked-none, found-none}
 use Rattle.pairs.proofs.owner.Statement.{statement}
 use Rattle.pairs.proofs.owner.Tie as tie
-use Rattle.pairs.proofs.owner.Reads as reads
-use Rattle.pairs.proofs.owner.Lts as lts
-use Rattle.drawlog.proofs.block_at.Reads as block-at-reads
-use Rattle.pairs.proofs.others.Reads as others-reads
-use Rattle.pairs.proofs.probe_size.Reads as probe-size-reads
 
 probe-size-requires : tie.Need-probe-size-requires
 probe-size-requires c κs = search needs
@@ -38,8 +33,7 @@ returns c =
     let a = s .args in
     let h : a .a < testedOf (a .log .now) .count = omega (arith, s .pre .0) in
     let l : lengthAt (a .log .now) (a .a) < probeSize (a .p) =
-    omega (arith, c .before .if1 .taken, size .ensures, handed-length (a .log .now) (a .a) h (block .block-at .ensures .bytes)) in
-    (
+    omega (arith, c .before .if1 .taken, size .ensures, handed-length (a .log .now) (a .a) h (block .block-at .ensures .bytes)) in (
       found-none (of-unprobed step (a .p) (a .log .now) (a .a) l) (omega (arith, s .pre .0)),
       (ap (λ (n : ℕ). a .done .unprobed + n) (sym (told-unprobed (a .p) (a .log .now) (a .a) l)), worked-none),
     )
@@ -79,8 +73,7 @@ returns-2 c =
     let l : size .result ≤ length (block .block-at .result .now) = omega (arith, if1 .if1 .left) in
     let e : length (take (size .result) (block .block-at .result .now)) ≡ probeSize (a .p) = length-take-le _ _ l ∙ size .ensures in
     let b = block .block-at .ensures .bytes in
-    let t : probeSize (a .p) ≤ lengthAt (a .log .now) (a .a) = omega (arith, l, size .ensures, handed-length (a .log .now) (a .a) h b) in
-    (
+    let t : probeSize (a .p) ≤ lengthAt (a .log .now) (a .a) = omega (arith, l, size .ensures, handed-length (a .log .now) (a .a) h b) in (
       rw (of-handed step (a .p) (a .log .now) (a .a) (size .result) (a .count) h b (size .ensures) l (s .pre .0 .0)) at (call .others .ensures .0),
       (
         sym (ap (λ (n : ℕ). a .done .unprobed + n) (told-probed (a .p) (a .log .now) (a .a) t) ∙ add-zero (a .done .unprobed)),

@@ -1,22 +1,17 @@
 -- `owners` meets its contract. The loop's invariant: the pairs of the first a owners are found, the unprobed ones among them counted, and nothing of the work
 -- rooms beyond a probe's length is changed. There is room for the pairs of one owner more, since no owner has more than count − 1.
 -- Assumes nothing.
-use Prim.Native.Nat.{ℕ, _+_, _-_, _≤_, _<_}
-use mathlib.Core.Path.{_≡_, sym, ap, _∙_}
-use mathlib.Core.Bool.{cond}
+use Prim.Native.Nat.{_-_, _≤_, _<_}
+use mathlib.Core.Path.{_≡_, sym, _∙_}
 use native.Mathlib.Omega.{arith}
-use lib.ListN.{length}
 use Rattle.drawlog.specs.Promise.{testedOf}
-use Rattle.pairs.specs.Check.{probeSize, probed, pairs, unprobed}
+use Rattle.pairs.specs.Check.{probeSize, pairs, unprobed}
 use Rattle.pairs.specs.Promise.{step}
 use Rattle.pairs.specs.Inside.{Worked, Found}
 use Rattle.pairs.specs.laws.Check.{count-is, few-entries, pairs-first, pairs-next, pairs-room, unprobed-first, unprobed-next, unprobed-le}
 use Rattle.pairs.specs.laws.Inside.{worked-none, worked-then, ready-again, found-none, found-then, found-length}
 use Rattle.pairs.proofs.owners.Statement.{statement}
 use Rattle.pairs.proofs.owners.Tie as tie
-use Rattle.pairs.proofs.owners.Reads as reads
-use Rattle.pairs.proofs.owners.Lts as lts
-use Rattle.pairs.proofs.owner.Reads as owner-reads
 
 abbrev Inv-loop : tie.InvT-loop
 Inv-loop log count p suffix₀ shift₀ memory₀ result₀ done₀ a₀ suffix shift memory result done a =
@@ -40,8 +35,7 @@ owner-requires c κs =
     let h : l .loop .a < testedOf (a .log .now) .count = omega (arith, s .pre .0) in
     let e : a .count ≡ testedOf (a .log .now) .count = s .pre .0 .0 in
     let k = count-is (a .log .now) (l .loop .a) h in
-    let room = pairs-room step (a .p) (a .log .now) (l .loop .a) (a .count) (omega arith) (e ∙ k) (omega (arith, e, k, few-entries (a .log .now) (l .loop .a) h)) in
-    (
+    let room = pairs-room step (a .p) (a .log .now) (l .loop .a) (a .count) (omega arith) (e ∙ k) (omega (arith, e, k, few-entries (a .log .now) (l .loop .a) h)) in (
       (
         e,
         s .pre .0 .2,
@@ -64,11 +58,10 @@ loop-again c =
     let call = c .before .before .before .before .before .before .before .before in
     let l = call .before .before .before .before .before .before in
     let a = l .before .before .before .before .before .before .args in
-    let i = l .loop .inv in
-    (
+    let i = l .loop .inv in (
       omega arith,
       found-then (pairs-next step (a .p) (a .log .now) (l .loop .a)) (i .1) (call .owner .ensures .0),
-      call .owner .ensures .1 .0 ∙ ap (λ (n : ℕ). n + cond (probed (a .p) (a .log .now) (l .loop .a)) 0 1) (i .2) ∙ unprobed-next (a .p) (a .log .now) (l .loop .a),
+      unprobed-next (a .p) (a .log .now) (l .loop .a) (i .2) (call .owner .ensures .1 .0),
       worked-then (i .3) (call .owner .ensures .1 .1),
     )
 

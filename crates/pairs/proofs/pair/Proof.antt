@@ -8,12 +8,6 @@ use Rattle.pairs.specs.laws.Check.{with-self, with-none, with-some, id-i
 use Rattle.pairs.specs.laws.Inside.{worked-none, found-none, found-one, sought}
 use Rattle.pairs.proofs.pair.Statement.{statement}
 use Rattle.pairs.proofs.pair.Tie as tie
-use Rattle.pairs.proofs.pair.Reads as reads
-use Rattle.pairs.proofs.pair.Lts as lts
-use Rattle.drawlog.proofs.block_at.Reads as block-at-reads
-use Rattle.drawlog.proofs.entry.Reads as entry-reads
-use Rattle.pairs.proofs.put.Reads as put-reads
-use Rattle.scans.proofs.aligned.Reads as aligned-reads
 
 returns : tie.Need-returns
 returns c =
@@ -96,15 +90,14 @@ returns-3 c =
     let block = call .before .before .before .before in
     let s = block .before .before .before .before .before .before .before .before in
     let a = s .args in
-    let g = sought (a .log .now) (a .b) (s .pre .0 .1) (block .block-at .ensures .bytes) (call .aligned .ensures) (s .pre .1 .1) in
-    (
+    let g = sought (a .log .now) (a .b) (s .pre .0 .1) (block .block-at .ensures .bytes) (call .aligned .ensures) (s .pre .1 .1) in (
       found-one
-      (with-some step (a .probe .now) (a .log .now) (a .a) (a .b) (block .before .if1 .left) (λ z. other .before .before .if2 .left (g .number ∙ z)))
-      (put .put .ensures)
-      (id-is (a .log .now) (a .a) (s .pre .0 .0) (other .before .entry .ensures))
-      (id-is (a .log .now) (a .b) (s .pre .0 .1) (other .entry2 .ensures))
-      (g .first)
-      (g .number),
+          (with-some step (a .probe .now) (a .log .now) (a .a) (a .b) (block .before .if1 .left) (λ z. other .before .before .if2 .left (g .number ∙ z)))
+          (put .put .ensures)
+          (id-is (a .log .now) (a .a) (s .pre .0 .0) (other .before .entry .ensures))
+          (id-is (a .log .now) (a .b) (s .pre .0 .1) (other .entry2 .ensures))
+          (g .first)
+          (g .number),
       g .worked,
     )
 

@@ -6,9 +6,6 @@ use lib.ListN.{length-set}
 use Rattle.pairs.specs.laws.Laid.{laid-four}
 use Rattle.pairs.proofs.put.Statement.{statement}
 use Rattle.pairs.proofs.put.Tie as tie
-use Rattle.pairs.proofs.put.Reads as reads
-use Rattle.pairs.proofs.put.Lts as lts
-use Rattle.basics.proofs.wide.Reads as wide-reads
 
 wide-requires : tie.Need-wide-requires
 wide-requires c κs = search needs

@@ -1,20 +1,20 @@
 -- Laws of the pairs: one block more, one owner more, and how many there can be. Assumes nothing.
 use mathlib.Core.Path.{_≡_, refl, sym, ap, _∙_}
 use mathlib.Core.Logic.{⊎-elim}
-use mathlib.Core.Bool.{Bool, true, false, cond}
+use mathlib.Core.Bool.{cond}
 use mathlib.Core.List.{List, [], _∷_, _++_}
 use Prim.Native.Nat.{ℕ, zero, suc, _+_, _-_, _*_, _≤_, _<_, zero-le}
 use native.Mathlib.Nat.{eq-or-lt-of-le, le-of-suc-le-suc, mul-le-mul, mul-le-mul-right}
 use native.Mathlib.Numerals.{add-one}
 use native.Mathlib.Omega.{arith}
 use borrow.Author.Tests.{eq-eqb, ne-eqb, le-leb, lt-leb}
-use lib.Dec.{eqb, leb}
+use lib.Dec.{eqb}
 use lib.ListN.{length, take, drop, length-append, length-take, length-drop}
 use Rattle.basics.specs.laws.Tests.{bool-case, equal-or-not, le-or-lt}
 use Rattle.scans.specs.Occurrences.{occurrences, multiples, firstOf}
 use Rattle.drawlog.specs.declared.Listed.{Listed}
 use Rattle.drawlog.specs.declared.Tested.{Tested}
-use Rattle.drawlog.specs.Log.{count, idAt, startAt, lengthAt}
+use Rattle.drawlog.specs.Log.{count, idAt, lengthAt}
 use Rattle.drawlog.specs.Refusal.{causeOf}
 use Rattle.drawlog.specs.Promise.{testedOf, listedOf}
 use Rattle.drawlog.specs.laws.Refusal.{accepted-is}
@@ -213,9 +213,9 @@ module _ (p : ℕ) (s : List ℕ) where
   unfolding unprobed
   unprobed-first = refl
 
-  pub unprobed-next : (a : ℕ) → unprobed p s a + cond (probed p s a) 0 1 ≡ unprobed p s (a + 1)
+  pub unprobed-next : {u v : ℕ} (a : ℕ) → u ≡ unprobed p s a → v ≡ u + cond (probed p s a) 0 1 → v ≡ unprobed p s (a + 1)
   unfolding unprobed
-  unprobed-next a = rw add-one
+  unprobed-next a e q = q ∙ rw (e, add-one)
 
   pub unprobed-le : (n : ℕ) → unprobed p s n ≤ n
   unfolding unprobed

@@ -1,7 +1,7 @@
 -- From what was found to what the check promises. Assumes nothing.
 use mathlib.Core.Path.{_≡_, refl, sym, ap, _∙_}
-use mathlib.Core.List.{List, [], _∷_}
-use Prim.Native.Nat.{ℕ, zero, suc, _≤_, min}
+use mathlib.Core.List.{List}
+use Prim.Native.Nat.{ℕ, zero, suc, min}
 use native.Mathlib.Omega.{arith}
 use lib.ListN.{length, replicate}
 use Rattle.basics.specs.Rooms.{front}
@@ -10,7 +10,6 @@ use Rattle.drawlog.specs.declared.Cause.{Cause}
 use Rattle.drawlog.specs.declared.Tested.{Tested}
 use Rattle.drawlog.specs.Log.{count}
 use Rattle.drawlog.specs.Promise.{testedOf}
-use Rattle.pairs.specs.declared.Checked.{Checked}
 use Rattle.pairs.specs.Check.{probeSize, Pair, pairs, unprobed, numbers}
 use Rattle.pairs.specs.Refusal.{causeOf}
 use Rattle.pairs.specs.Promise.{step, checkedOf, cause, Checking}
