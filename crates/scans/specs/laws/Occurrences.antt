@@ -3,7 +3,7 @@ use mathlib.Core.Path.{_≡_, refl, sym, ap, _∙_}
 use mathlib.Core.Logic.{_⊎_, inl, inr, ⊎-elim}
 use mathlib.Core.Bool.{true, false}
 use mathlib.Core.List.{List, [], _∷_, map}
-use Prim.Native.Nat.{ℕ, zero, suc, _+_, _-_, _≤_, _<_}
+use Prim.Native.Nat.{ℕ, zero, suc, _+_, _-_, _≤_, _<_, zero-le}
 use native.Mathlib.Nat.{sub-zero, add-zero, add-suc, suc-add, suc-sub-suc, zero-sub, eq-or-lt-of-le, le-of-suc-le-suc}
 use native.Mathlib.Omega.{arith}
 use borrow.Author.Tests.{leb-true, le-leb}
@@ -20,10 +20,11 @@ use Rattle.tables.specs.laws.Occurrence.{occurrence-le, occurrence-first}
 use Rattle.scans.specs.Trace.{End, matched, stopped, Window, found, positions, Visit, visit}
 use Rattle.scans.specs.Move.{move}
 use Rattle.scans.specs.Plain.{plainFrom, plainPass, plainScan, plain}
-use Rattle.scans.specs.Occurrences.{occursAt, occursFrom, occurrences}
+use Rattle.scans.specs.Occurrences.{occursAt, occursFrom, occurrences, onStep, multiples, firstOf}
 use Rattle.scans.specs.laws.Plain.{plain-case, plain-step, plain-done}
 use Rattle.scans.specs.laws.Move.{move-pos, move-le}
 use Rattle.scans.specs.laws.Visits.{fits-case}
+use Rattle.scans.specs.laws.Hits.{multiples-le}
 
 -- the probe stands at j, byte by byte
 abbrev pub Standing : List ℕ → List ℕ → ℕ → Type 0
@@ -174,3 +175,31 @@ positions-by (w ∷ ws) = ap (found (w .start) (w .end)) (positions-by ws)
 
 pub same-positions : (vs ws : List Window) → map visit vs ≡ map visit ws → positions vs ≡ positions ws
 same-positions vs ws e = positions-by vs ∙ ap foundBy e ∙ sym (positions-by ws)
+
+-- HOW MANY AND HOW FAR: no more occurrences than places, and none beyond the stream's end
+module _ (x y : List ℕ) (d : ℕ) where
+  few : (c j : ℕ) → length (occursFrom x y c j) ≤ c
+  unfolding occursFrom
+  few zero j = zero-le
+  few (suc c) j =
+      bool-case (occursAt x y j) (λ t. length {A = ℕ} (elim t [ true ↦ j ∷ occursFrom x y c (suc j) | false ↦ occursFrom x y c (suc j) ]) ≤ suc c)
+      (λ e. omega (arith, few c (suc j)))
+      (λ e. omega (arith, few c (suc j)))
+
+  pub multiples-few : length (multiples d (occurrences x y)) ≤ suc (length y)
+  unfolding occurrences
+  multiples-few = omega (arith, multiples-le d (occursFrom x y (suc (length y)) 0), few (suc (length y)) 0)
+
+  near : (c j : ℕ) → firstOf (multiples d (occursFrom x y c j)) ≤ length y
+  unfolding occursFrom multiples
+  near zero j = zero-le
+  near (suc c) j =
+      bool-case (occursAt x y j) (λ t. firstOf (multiples d (elim t [ true ↦ j ∷ occursFrom x y c (suc j) | false ↦ occursFrom x y c (suc j) ])) ≤ length y)
+      (λ e. bool-case (onStep d j) (λ t. firstOf (elim t [ true ↦ j ∷ multiples d (occursFrom x y c (suc j)) | false ↦ multiples d (occursFrom x y c (suc j)) ]) ≤ length y)
+      (λ q. omega (arith, occurs-told x y j e .0))
+      (λ q. near c (suc j)))
+      (λ e. near c (suc j))
+
+  pub multiples-near : firstOf (multiples d (occurrences x y)) ≤ length y
+  unfolding occurrences
+  multiples-near = near (suc (length y)) 0

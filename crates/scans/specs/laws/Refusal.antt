@@ -47,3 +47,6 @@ accepted m n r e z = go (eqb m 0) refl (ltb longest m) refl (ltb largest n) refl
     go false ea false eb false ec true ed q = absurd (omega arith)
     go false ea false eb false ec false ed q =
         record { some = omega (arith, eqb-false m 0 ea); short = ltb-false longest m eb; small = ltb-false largest n ec; reaches = ltb-false r m ed }
+
+pub accepts : {m n r : ℕ} → Accepted m n r → refusalOf m n r ≡ 0
+accepts {m} {n} {r} a = refuses-none m n r (λ z. omega (arith, a .some)) (a .short) (a .small) (a .reaches)

@@ -3,10 +3,10 @@ use mathlib.Core.Path.{_≡_, refl, ap, _∙_}
 use mathlib.Core.List.{List}
 use Prim.Native.Nat.{ℕ, zero, suc, _≤_, min}
 use native.Mathlib.Omega.{arith}
-use lib.ListN.{length, replicate}
+use lib.ListN.{length, drop, replicate, length-replicate}
 use Rattle.basics.specs.Lists.{at}
 use Rattle.basics.specs.Rooms.{front, roomAfter, Begins}
-use Rattle.basics.specs.laws.Rooms.{begins-front}
+use Rattle.basics.specs.laws.Rooms.{begins-front, length-front, drop-front}
 use Rattle.tables.specs.Suffix.{suffixTable}
 use Rattle.tables.specs.Shift.{shiftTable}
 use Rattle.tables.specs.laws.Suffix.{length-suffixTable}
@@ -18,7 +18,7 @@ use Rattle.scans.specs.declared.loops.Run.{Run}
 use Rattle.scans.specs.Trace.{Window, comparisons, positions}
 use Rattle.scans.specs.Plain.{plain}
 use Rattle.scans.specs.Remember.{remembering}
-use Rattle.scans.specs.Occurrences.{occurrences, multiples}
+use Rattle.scans.specs.Occurrences.{occurrences, multiples, firstOf}
 use Rattle.scans.specs.Refusal.{refusalOf}
 use Rattle.scans.specs.Promise.{answerOf, tallyOf, reportedAfter}
 use Rattle.scans.specs.inside.Stamp.{remembered}
@@ -29,7 +29,8 @@ use Rattle.scans.specs.declared.Prepared.{Prepared}
 use Rattle.scans.specs.Promise.{Plainly, Rememberingly, Aligning}
 use Rattle.scans.specs.Demands.{demand2}
 use Rattle.scans.specs.inside.Search.{Searching, Preparing}
-use Rattle.scans.specs.laws.Refusal.{accepted}
+use Rattle.scans.specs.laws.Refusal.{Accepted, accepted, accepts}
+use Rattle.scans.specs.laws.Occurrences.{multiples-few, multiples-near}
 
 -- WHAT A SEARCH GIVES, by its refusal
 -- a refusal, and a run without one
@@ -139,3 +140,41 @@ module _ {x y s h e d : List ℕ} {step : ℕ} {q : Searched} {s′ h′ e′ d�
         shift = rw z (g .shift);
         memory = rw z (g .memory);
       }
+
+-- FOR THE LAYERS ABOVE: what an accepted search for the places at multiples of a step tells, without its tables
+-- a room as long as it was, and unchanged from place n on
+pub record Beyond (n : ℕ) (d d′ : List ℕ) : Type 0 where
+  pub size : length d′ ≡ length d
+  pub rest : drop n d′ ≡ drop n d
+
+beyond-front : (n : ℕ) (t d : List ℕ) {d′ : List ℕ} → d′ ≡ front t d → length t ≡ n → n ≤ length d → Beyond n d d′
+beyond-front n t d e q l =
+    record { size = ap length e ∙ length-front t d (omega arith); rest = ap (drop n) e ∙ drop-front t d n (omega arith) }
+
+pub record Counted (x y s h e : List ℕ) (d : ℕ) (r : Tally) (s′ h′ e′ : List ℕ) : Type 0 where
+  pub number : r .number ≡ length (multiples d (occurrences x y))
+  pub first : r .first ≡ firstOf (multiples d (occurrences x y))
+  pub few : r .number ≤ suc (length y)
+  pub near : r .first ≤ length y
+  pub suffix : Beyond (length x) s s′
+  pub shift : Beyond (length x) h h′
+  pub memory : Beyond (length x) e e′
+
+pub counted : {x y s h e : List ℕ} {d : ℕ} {r : Tally} {s′ h′ e′ : List ℕ} → Aligning x y s h e d r s′ h′ e′
+    → Accepted (length x) (length y) (min (length s) (min (length h) (length e))) → Counted x y s h e d r s′ h′ e′
+unfolding tallyOf
+counted {x} {y} {s} {h} {e} {d} {r} {s′} {h′} {e′} g a =
+    let ps = multiples d (occurrences x y) in
+    let q : r ≡ tallyOf 0 ps = g .answer ∙ ap (λ (k : ℕ). tallyOf k ps) (accepts a) in
+    let z : r .refusal ≡ 0 = ap (λ (r : Tally). r .refusal) q in
+    let number : r .number ≡ length ps = ap (λ (r : Tally). r .number) q in
+    let first : r .first ≡ firstOf ps = ap (λ (r : Tally). r .first) q in
+    record {
+      number = number;
+      first = first;
+      few = omega (arith, number, multiples-few x y d);
+      near = omega (arith, first, multiples-near x y d);
+      suffix = beyond-front (length x) (suffixTable x) s (rw z at (g .suffix)) (length-suffixTable x) (omega (arith, a .reaches));
+      shift = beyond-front (length x) (shiftTable x) h (rw z at (g .shift)) (length-shiftTable x) (omega (arith, a .reaches));
+      memory = beyond-front (length x) (replicate (length x) 0) e (rw z at (g .memory)) (length-replicate (length x) 0) (omega (arith, a .reaches));
+    }

@@ -1,0 +1,29 @@
+-- The refusals that the check can meet: those of the log test, then 20, 4 and 5. Assumes nothing.
+use mathlib.Core.Bool.{cond, not, _&&_}
+use Prim.Native.Nat.{ℕ, _*_, _-_}
+use lib.Dec.{eqb, leb, ltb}
+use Rattle.drawlog.specs.declared.Cause.{Cause}
+use Rattle.drawlog.specs.declared.Tested.{Tested}
+use Rattle.pairs.specs.Check.{probeSize}
+
+-- the most draws of a probe
+abbrev pub longest : ℕ
+longest = 512
+
+-- the most numbers that the pairs of c replicates take: four for each owner and each other block
+abbrev pub needed : ℕ → ℕ
+needed c = 4 * (c * (c - 1))
+
+-- the first of 20, 4 and 5 that holds, of probes of p draws, work rooms of which the smallest has w entries, a result room of n, and c replicates;
+-- 0 where there is none
+unfoldable pub ownCause : ℕ → ℕ → ℕ → ℕ → ℕ
+ownCause p w n c =
+    cond (not (leb 1 p && leb p longest)) 20
+    (cond (ltb w (probeSize p)) 4
+    (cond (ltb n (needed c)) 5
+    0))
+
+-- the first cause to hold, with its entry number: that of the log test, or one of these, which carry 0
+unfoldable pub causeOf : Tested → ℕ → ℕ → ℕ → Cause
+causeOf t p w n =
+    cond (not (eqb (t .refusal) 0)) (record { refusal = t .refusal; entry = t .entry }) (record { refusal = ownCause p w n (t .count); entry = 0 })

@@ -1,0 +1,99 @@
+-- Laws of what the private functions hand on: the work rooms, and the pairs found so far. Assumes nothing.
+use mathlib.Core.Path.{_≡_, refl, sym, ap, _∙_}
+use mathlib.Core.List.{List, [], _∷_, _++_}
+use Prim.Native.Nat.{ℕ, _+_, _*_, _≤_, _<_, min}
+use native.Mathlib.Nat.{add-zero}
+use native.Mathlib.Omega.{arith}
+use lib.ListN.{length, take, drop, replicate, length-append, length-replicate}
+use Rattle.basics.specs.Rooms.{front}
+use Rattle.scans.specs.declared.Tally.{Tally}
+use Rattle.scans.specs.Occurrences.{occurrences, multiples, firstOf}
+use Rattle.scans.specs.Promise.{Aligning}
+use Rattle.scans.specs.laws.Refusal.{Accepted}
+use Rattle.scans.specs.laws.Search.{Beyond, counted}
+use Rattle.drawlog.specs.Promise.{testedOf, listedOf}
+use Rattle.pairs.specs.Check.{block, Pair, numbers}
+use Rattle.pairs.specs.Inside.{Laid, Worked, Ready, Found}
+use Rattle.pairs.specs.laws.Laid.{laid-length, laid-none, laid-then}
+use Rattle.pairs.specs.laws.Check.{numbers-append, length-numbers, block-is, block-short}
+
+-- WORK ROOMS
+beyond-none : {n : ℕ} {d : List ℕ} → Beyond n d d
+beyond-none = record { size = refl; rest = refl }
+
+beyond-then : {n : ℕ} {d d₁ d₂ : List ℕ} → Beyond n d d₁ → Beyond n d₁ d₂ → Beyond n d d₂
+beyond-then u v = record { size = v .size ∙ u .size; rest = v .rest ∙ u .rest }
+
+-- a room whose first n entries are cleared after all searches
+pub beyond-cleared : (n : ℕ) {d d₁ d₂ : List ℕ} → Beyond n d d₁ → d₂ ≡ front (replicate n 0) d₁ → d₂ ≡ front (replicate n 0) d
+beyond-cleared n {d} {d₁} u e = e ∙ rw (length-replicate {A = ℕ} n 0) (ap (λ (l : List ℕ). replicate n 0 ++ l) (u .rest))
+
+module _ {m : ℕ} {f h e : List ℕ} where
+  pub worked-none : Worked m f h e f h e
+  worked-none = record { suffix = beyond-none; shift = beyond-none; memory = beyond-none }
+
+  pub worked-then : {f₁ h₁ e₁ f₂ h₂ e₂ : List ℕ} → Worked m f h e f₁ h₁ e₁ → Worked m f₁ h₁ e₁ f₂ h₂ e₂ → Worked m f h e f₂ h₂ e₂
+  worked-then u v =
+      record { suffix = beyond-then (u .suffix) (v .suffix); shift = beyond-then (u .shift) (v .shift); memory = beyond-then (u .memory) (v .memory) }
+
+  -- they can be searched with again
+  pub ready-again : {f₁ h₁ e₁ : List ℕ} → Ready m f h e → Worked m f h e f₁ h₁ e₁ → Ready m f₁ h₁ e₁
+  ready-again r w =
+      record {
+        some = r .some;
+        short = r .short;
+        suffix = omega (arith, r .suffix, w .suffix .size);
+        shift = omega (arith, r .shift, w .shift .size);
+        memory = omega (arith, r .memory, w .memory .size);
+      }
+
+  -- a scan of a block refuses nothing
+  pub ready-accepted : (n : ℕ) → Ready m f h e → n ≤ 65536 → Accepted m n (min (length f) (min (length h) (length e)))
+  ready-accepted n r l =
+      record { some = r .some; short = r .short; small = omega arith; reaches = omega (arith, r .suffix, r .shift, r .memory) }
+
+-- THE PAIRS FOUND
+pub found-length : {qs : List Pair} {k k′ : ℕ} {d d′ : List ℕ} → Found qs k d k′ d′ → length d′ ≡ length d
+found-length g = laid-length (g .laid)
+
+pub found-none : {qs : List Pair} {k : ℕ} {d : List ℕ} → qs ≡ [] → 4 * k ≤ length d → Found qs k d k d
+unfolding numbers
+found-none {qs} {k} {d} e l = rw e (record { number = sym (add-zero k); laid = laid-none d (4 * k) l })
+
+pub found-one : {qs : List Pair} {q : Pair} {k u v w x : ℕ} {d d′ : List ℕ} → qs ≡ q ∷ [] → Laid d (4 * k) (u ∷ v ∷ w ∷ x ∷ []) d′
+    → u ≡ q .owner → v ≡ q .other → w ≡ q .first → x ≡ q .number → Found qs k d (k + 1) d′
+unfolding numbers
+found-one e l eu ev ew ex = rw e (record { number = refl; laid = rw (eu, ev, ew, ex) at l })
+
+pub found-then : {qs rs ts : List Pair} {k k₁ k₂ : ℕ} {d d₁ d₂ : List ℕ} → qs ++ rs ≡ ts → Found qs k d k₁ d₁ → Found rs k₁ d₁ k₂ d₂ → Found ts k d k₂ d₂
+found-then {qs} {rs} {ts} {k} {k₁} {k₂} {d} {d₁} {d₂} e u v =
+    rw (← e)
+    (record {
+      number = rw (length-append qs rs) (omega (arith, u .number, v .number));
+      laid = rw (numbers-append qs rs) (laid-then (u .laid) (omega (arith, u .number, length-numbers qs)) (v .laid));
+    })
+
+-- they lie within the result room
+pub found-within : {qs : List Pair} {k k′ : ℕ} {d d′ : List ℕ} → Found qs k d k′ d′ → 4 * k′ ≤ length d
+found-within {qs} g = omega (arith, g .number, g .laid .room, length-numbers qs)
+
+-- ONE SEARCH in block b: what it tells of the pair, and of the work rooms
+pub record Sought (d : ℕ) (x s : List ℕ) (b : ℕ) (f h e : List ℕ) (r : Tally) (f′ h′ e′ : List ℕ) : Type 0 where
+  pub number : r .number ≡ length (multiples d (occurrences x (block s b)))
+  pub first : r .first ≡ firstOf (multiples d (occurrences x (block s b)))
+  pub few : r .number ≤ 65537
+  pub near : r .first ≤ 65536
+  pub worked : Worked (length x) f h e f′ h′ e′
+
+pub sought : {d : ℕ} {x y f h e : List ℕ} {r : Tally} {f′ h′ e′ : List ℕ} (s : List ℕ) (b : ℕ) → b < testedOf s .count
+    → y ≡ take (listedOf s b .length) (drop (listedOf s b .start) s) → Aligning x y f h e d r f′ h′ e′ → Ready (length x) f h e → Sought d x s b f h e r f′ h′ e′
+sought {d} {x} {y} s b there e g ready =
+    let q : y ≡ block s b = e ∙ block-is s b there in
+    let t = counted (rw q at g) (ready-accepted (length (block s b)) ready (block-short s b there)) in
+    record {
+      number = t .number;
+      first = t .first;
+      few = omega (arith, t .few, block-short s b there);
+      near = omega (arith, t .near, block-short s b there);
+      worked = record { suffix = t .suffix; shift = t .shift; memory = t .memory };
+    }
