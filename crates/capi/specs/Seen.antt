@@ -3,6 +3,8 @@ use Rattle.tables.specs.declared.Occurrences as tables
 use Rattle.scans.specs.declared.Answer as scans
 use Rattle.drawlog.specs.declared.Tested as tested
 use Rattle.drawlog.specs.declared.Found as found
+use Rattle.pairs.specs.declared.Checked as checked
+use Rattle.capi.specs.declared.checks.Checked.{Checked}
 use Rattle.capi.specs.declared.logs.Tested.{Tested}
 use Rattle.capi.specs.declared.logs.Found.{Found}
 use Rattle.capi.specs.declared.probes.Occurrences.{Occurrences}
@@ -20,3 +22,6 @@ testedSeen r = record { refusal = r .refusal; entry = r .entry; count = r .count
 
 abbrev pub foundSeen : Found → found.Found
 foundSeen r = record { refusal = r .refusal; entry = r .entry; start = r .start; length = r .length }
+
+abbrev pub checkedSeen : Checked → checked.Checked
+checkedSeen r = record { refusal = r .refusal; entry = r .entry; pairs = r .pairs; unprobed = r .unprobed }

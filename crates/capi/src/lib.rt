@@ -2,6 +2,7 @@
 // count of elements; a struct comes back by value. `include/nahuitepol.h` declares them for C.
 //
 // Each promise is that of the library's call, said of the struct that C sees.
+pub mod checks; // checks.rt: the overlap check
 pub mod logs; // logs.rt: the log test and the lookup
 pub mod probes; // probes.rt: the tables of a probe
 pub mod searches; // searches.rt: the two scans

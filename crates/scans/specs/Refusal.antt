@@ -2,11 +2,9 @@
 use mathlib.Core.Bool.{cond}
 use Prim.Native.Nat.{ℕ}
 use lib.Dec.{eqb, ltb}
+use Rattle.tables.specs.Refusal.{longest}
 
--- the most bytes that a probe, and that a stream, may have
-abbrev pub longest : ℕ
-longest = 4096
-
+-- the most bytes that a stream may have
 abbrev pub largest : ℕ
 largest = 16777216
 

@@ -6,13 +6,14 @@ use lib.ListN.{length, drop}
 use Rattle.basics.specs.Lists.{at}
 use Rattle.basics.specs.Rooms.{Begins}
 use Rattle.tables.specs.Suffix.{suffixTable}
+use Rattle.tables.specs.Refusal.{longest}
 use Rattle.tables.specs.Shift.{shiftTable}
 use Rattle.tables.specs.Occurrence.{occurrenceTable}
 use Rattle.scans.specs.declared.windows.Seen.{Seen}
 use Rattle.scans.specs.declared.windows.Passed.{Passed}
 use Rattle.scans.specs.Trace.{End, matched, stopped, Pass}
 use Rattle.scans.specs.Remember.{remember}
-use Rattle.scans.specs.Refusal.{longest, largest}
+use Rattle.scans.specs.Refusal.{largest}
 use Rattle.scans.specs.inside.Stamp.{recalled}
 
 abbrev pub leftOf : End → ℕ

@@ -5,7 +5,8 @@ use Prim.Native.Nat.{ℕ, _≤_, _<_}
 use native.Mathlib.Omega.{arith}
 use borrow.Author.Tests.{eqb-false, eq-eqb, ne-eqb, lt-ltb, le-ltb, ltb-false}
 use lib.Dec.{eqb, ltb}
-use Rattle.scans.specs.Refusal.{longest, largest, refusalOf}
+use Rattle.tables.specs.Refusal.{longest}
+use Rattle.scans.specs.Refusal.{largest, refusalOf}
 
 module _ (m n r : ℕ) where
   pub refuses-empty : m ≡ 0 → refusalOf m n r ≡ 1
