@@ -1,6 +1,8 @@
-// Small functions on numbers that several layers use.
+// Small functions on numbers and rooms that several layers use.
 ghost use mathlib.Core.Path.{_≡_};
 ghost use Prim.Native.Nat.{_-_, min, max};
+ghost use lib.ListN.{length, replicate};
+ghost use Rattle.basics.specs.Rooms.{front};
 
 // A 32-bit number as an index.
 pub fn wide(a: u32) -> usize
@@ -28,4 +30,16 @@ pub fn less(a: usize, b: usize) -> usize
     ensures { λ r. ⌜ r ≡ a - b ⌝ }
 {
     if b < a { a - b } else { 0 }
+}
+
+// Clears the first n entries of a room, as far as it reaches.
+pub fn clear(room: &mut [u32], n: usize)
+    ensures { λ _. ⌜ now (room .exit) ≡ front (replicate (min n (length (now (room .entry)))) 0) (now (room .entry)) ⌝ }
+{
+    let end = smaller(n, room.len());
+    let mut i = 0;
+    while i < end {
+        room[i] = 0;
+        i += 1;
+    }
 }

@@ -70,9 +70,10 @@ pub(crate) fn remembering(
     ensures room { λ r. ⌜ now (room .exit) ≡ reported (positions (remembering (now (x .entry)) (now (y .entry)))) (now (room .entry)) ⌝ }
     ensures zeros { λ r. ⌜ now (mem .exit) ≡ front (replicate (length (now (x .entry))) 0) (now (mem .entry)) ⌝ }
 {
-    memory::clear(mem, x.len());
+    basics::clear(mem, x.len());
     let run = through(x, y, suffix, shift, occ, mem, room, step);
-    memory::clear(mem, x.len());
+    let used = x.len();
+    basics::clear(mem, used);
     run
 }
 

@@ -5,8 +5,7 @@
 // Slot and stamp go along with the position: no division is made.
 ghost use mathlib.Core.Path.{_≡_};
 ghost use Prim.Native.Nat.{_+_, _<_, _≤_};
-ghost use lib.ListN.{length, replicate};
-ghost use Rattle.basics.specs.Rooms.{front};
+ghost use lib.ListN.{length};
 ghost use Rattle.scans.specs.inside.Stamp.{recalled, Stands};
 ghost use Rattle.scans.specs.inside.Window.{Kept};
 
@@ -63,16 +62,4 @@ pub(crate) fn keep(mem: &mut [u32], m: usize, start: Place, top: usize, v: usize
     let slot = last.slot;
     mem[slot] = (last.stamp + v) as u32;
     last.at + 1
-}
-
-// Clears the first m entries.
-pub(crate) fn clear(mem: &mut [u32], m: usize)
-    requires { ⌜ m ≤ length (now mem) ⌝ }
-    ensures { λ _. ⌜ now (mem .exit) ≡ front (replicate m 0) (now (mem .entry)) ⌝ }
-{
-    let mut i = 0;
-    while i < m {
-        mem[i] = 0;
-        i += 1;
-    }
 }

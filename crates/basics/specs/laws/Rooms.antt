@@ -1,10 +1,10 @@
 -- Laws of rooms: after a call, and while a loop fills one. Assumes nothing.
 use mathlib.Core.Path.{_≡_, refl, sym, ap, _∙_}
 use mathlib.Core.List.{List, [], _∷_, _++_, append-assoc}
-use Prim.Native.Nat.{ℕ, zero, suc, _+_, _-_, _≤_, _<_}
+use Prim.Native.Nat.{ℕ, zero, suc, _+_, _-_, _≤_, _<_, min}
 use native.Mathlib.Numerals.{add-one}
 use native.Mathlib.Omega.{arith}
-use lib.ListN.{length, getD, drop, set, length-append, length-drop, List·getD-append}
+use lib.ListN.{length, getD, drop, set, replicate, length-append, length-drop, List·getD-append}
 use lib.Seq.{drop-cons, drop-at, drop-drop, set-at, set-append-left}
 use Rattle.basics.specs.Lists.{at, table}
 use Rattle.basics.specs.Rooms.{front, roomAfter, Begins}
@@ -40,6 +40,10 @@ front-then t u d d₁ p q l = q ∙ ap (λ (r : List ℕ). u ++ r) (ap (drop (le
 -- the same list again changes nothing
 pub front-again : (t d : List ℕ) {d₁ : List ℕ} → d₁ ≡ front t d → d₁ ≡ front t d₁
 front-again t d {d₁} p = p ∙ sym (front-then t t d d₁ p refl (omega arith))
+
+-- a room that is long enough is cleared as far as was asked
+pub cleared : (n : ℕ) (d : List ℕ) {d′ : List ℕ} → n ≤ length d → d′ ≡ front (replicate (min n (length d)) 0) d → d′ ≡ front (replicate n 0) d
+cleared n d h e = let q : min n (length d) ≡ n = omega arith in rw q at e
 
 -- A LOOP THAT FILLS: d is the room d₀ with the first i entries of f in front
 pub record Filled (f : ℕ → ℕ) (d₀ : List ℕ) (i : ℕ) (d : List ℕ) : Type 0 where
