@@ -15,9 +15,10 @@ ghost use mathlib.Core.Bool.{cond};
 ghost use mathlib.Core.List.{[], _∷_};
 ghost use lib.ListN.{length, replicate};
 ghost use Rattle.basics.specs.Rooms.{front};
+ghost use Rattle.drawlog.specs.Log.{most};
 ghost use Rattle.drawlog.specs.Promise.{testedOf};
 ghost use Rattle.pairs.specs.Check.{probeSize, probed, pairWith, pairsWith, pairsOf, pairs, unprobed};
-ghost use Rattle.pairs.specs.Refusal.{needed, ownCause, causeOf};
+ghost use Rattle.pairs.specs.Refusal.{longest, needed, ownCause, causeOf};
 ghost use Rattle.pairs.specs.Promise.{step, Checking};
 ghost use Rattle.pairs.specs.Inside.{Laid, Worked, Ready, Found};
 use basics::wide;
@@ -97,7 +98,7 @@ pub fn check(
 // The first cause to refuse, after the log test: probes of p draws, work rooms of which the smallest has `smallest`
 // entries, and a result room of n.
 fn causes(tested: Tested, p: u32, smallest: usize, n: usize) -> Cause
-    requires { ⌜ tested .count ≤ 64 ⌝ }
+    requires { ⌜ tested .count ≤ most ⌝ }
     ensures { λ r. ⌜ r ≡ causeOf tested p smallest n ⌝ }
 {
     let refusal = tested.refusal;
@@ -113,7 +114,7 @@ fn causes(tested: Tested, p: u32, smallest: usize, n: usize) -> Cause
 
 // The first of 20, 4 and 5 that holds; 0 where none does.
 fn own_cause(count: u32, p: u32, smallest: usize, n: usize) -> u32
-    requires { ⌜ count ≤ 64 ⌝ }
+    requires { ⌜ count ≤ most ⌝ }
     ensures { λ r. ⌜ r ≡ ownCause p smallest n count ⌝ }
 {
     if p < SHORTEST {
@@ -122,10 +123,12 @@ fn own_cause(count: u32, p: u32, smallest: usize, n: usize) -> u32
     if LONGEST < p {
         return BAD_PROBE;
     }
-    if smallest < probe_size(p) {
+    let bytes = probe_size(p);
+    let numbers = needed(count);
+    if smallest < bytes {
         return ROOM_SHORT;
     }
-    if n < needed(count) {
+    if n < numbers {
         return RESULT_SHORT;
     }
     0
@@ -133,7 +136,7 @@ fn own_cause(count: u32, p: u32, smallest: usize, n: usize) -> u32
 
 // The bytes of a probe of p draws.
 fn probe_size(p: u32) -> usize
-    requires { ⌜ p ≤ 512 ⌝ }
+    requires { ⌜ p ≤ longest ⌝ }
     ensures { λ r. ⌜ r ≡ probeSize p ⌝ }
 {
     wide(Log::DRAW * p)
@@ -141,7 +144,7 @@ fn probe_size(p: u32) -> usize
 
 // The numbers that the pairs of so many replicates take at most.
 fn needed(count: u32) -> usize
-    requires { ⌜ count ≤ 64 ⌝ }
+    requires { ⌜ count ≤ most ⌝ }
     ensures { λ r. ⌜ r ≡ needed count ⌝ }
 {
     let c = wide(count);
@@ -158,7 +161,7 @@ fn owners(
     memory: &mut [u32],
     result: &mut [u32],
 ) -> Done
-    requires { ⌜ (count ≡ testedOf (now log) .count) × (1 ≤ p) × (p ≤ 512) × (needed count ≤ length (now result)) ⌝ }
+    requires { ⌜ (count ≡ testedOf (now log) .count) × (1 ≤ p) × (p ≤ longest) × (needed count ≤ length (now result)) ⌝ }
     requires { ⌜ Ready (probeSize p) (now suffix) (now shift) (now memory) ⌝ }
     ensures { λ r. ⌜ Found (pairs step p (now (log .entry)) count) 0 (now (result .entry)) (r .pairs) (now (result .exit)) ⌝ }
     ensures { λ r. ⌜ r .unprobed ≡ unprobed p (now (log .entry)) count ⌝ }
@@ -188,7 +191,7 @@ fn owner(
     memory: &mut [u32],
     result: &mut [u32],
 ) -> Done
-    requires { ⌜ (count ≡ testedOf (now log) .count) × (p ≤ 512) × (a < count) × (done .unprobed ≤ a) × (4 * (done .pairs + (count - 1)) ≤ length (now result)) × (done .pairs ≤ 4096) ⌝ }
+    requires { ⌜ (count ≡ testedOf (now log) .count) × (p ≤ longest) × (a < count) × (done .unprobed ≤ a) × (4 * (done .pairs + (count - 1)) ≤ length (now result)) × (done .pairs ≤ 4096) ⌝ }
     requires { ⌜ Ready (probeSize p) (now suffix) (now shift) (now memory) ⌝ }
     ensures { λ r. ⌜ Found (pairsOf step p (now (log .entry)) a) (done .pairs) (now (result .entry)) (r .pairs) (now (result .exit)) ⌝ }
     ensures { λ r. ⌜ r .unprobed ≡ done .unprobed + cond (probed p (now (log .entry)) a) 0 1 ⌝ }

@@ -16,21 +16,23 @@ returns-2 c = sym (refuses-high _ _ _ _ (omega arith) (omega arith))
 probe-size-requires : tie.Need-probe-size-requires
 probe-size-requires c κs = search needs
 
-returns-3 : tie.Need-returns-3
-returns-3 c = sym (refuses-work _ _ _ _ (omega arith) (omega arith) (omega (arith, c .before .probe-size .ensures)))
-
 needed-requires : tie.Need-needed-requires
 needed-requires c κs = search needs
 
+returns-3 : tie.Need-returns-3
+returns-3 c = sym (refuses-work _ _ _ _ (omega arith) (omega arith) (omega (arith, c .before .before .probe-size .ensures)))
+
 returns-4 : tie.Need-returns-4
 returns-4 c =
-    sym (refuses-result _ _ _ _ (omega arith) (omega arith) (omega (arith, c .before .before .before .probe-size .ensures)) (omega (arith, c .before .needed .ensures)))
+    let size = c .before .before .before .probe-size in
+    sym (refuses-result _ _ _ _ (omega arith) (omega arith) (omega (arith, size .ensures)) (omega (arith, c .before .before .needed .ensures)))
 
 returns-5 : tie.Need-returns-5
 returns-5 c =
-    sym (refuses-none _ _ _ _ (omega arith) (omega arith) (omega (arith, c .before .before .before .probe-size .ensures)) (omega (arith, c .before .needed .ensures)))
+    let size = c .before .before .before .probe-size in
+    sym (refuses-none _ _ _ _ (omega arith) (omega arith) (omega (arith, size .ensures)) (omega (arith, c .before .before .needed .ensures)))
 
 pub own-cause-spec : {M : Type 1} → statement M
 own-cause-spec =
     tie.close
-    (tie.spec returns returns-2 probe-size-requires returns-3 needed-requires returns-4 returns-5)
+    (tie.spec returns returns-2 probe-size-requires needed-requires returns-3 returns-4 returns-5)
