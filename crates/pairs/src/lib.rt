@@ -13,8 +13,7 @@ ghost use mathlib.Core.Path.{_≡_};
 ghost use Prim.Native.Nat.{_+_, _*_, _-_, _≤_, _<_};
 ghost use mathlib.Core.Bool.{cond};
 ghost use mathlib.Core.List.{[], _∷_};
-ghost use lib.ListN.{length, replicate};
-ghost use Rattle.basics.specs.Rooms.{front};
+ghost use lib.ListN.{length};
 ghost use Rattle.drawlog.specs.Log.{most};
 ghost use Rattle.drawlog.specs.Promise.{testedOf};
 ghost use Rattle.pairs.specs.Check.{probeSize, probed, pairWith, pairsWith, pairsOf, pairs, unprobed};
@@ -84,9 +83,9 @@ pub fn check(
     }
     let done = owners(log, tested.count, p, suffix, shift, memory, result);
     let size = probe_size(p);
-    clear(suffix, size);
-    clear(shift, size);
-    clear(memory, size);
+    basics::clear(suffix, size);
+    basics::clear(shift, size);
+    basics::clear(memory, size);
     Checked {
         refusal: 0,
         entry: 0,
@@ -298,16 +297,4 @@ fn put(result: &mut [u32], pairs: u32, owner: u32, other: u32, first: u32, numbe
     result[at + 1] = other;
     result[at + 2] = first;
     result[at + 3] = number;
-}
-
-// Clears the first n entries of a work room.
-fn clear(room: &mut [u32], n: usize)
-    requires { ⌜ n ≤ length (now room) ⌝ }
-    ensures { λ _. ⌜ now (room .exit) ≡ front (replicate n 0) (now (room .entry)) ⌝ }
-{
-    let mut i = 0;
-    while i < n {
-        room[i] = 0;
-        i += 1;
-    }
 }

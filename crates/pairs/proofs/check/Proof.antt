@@ -3,7 +3,6 @@
 use Prim.Native.Nat.{min}
 use mathlib.Core.Path.{_≡_, ap, _∙_}
 use borrow.Author.Needs.{needs}
-use native.Mathlib.Omega.{arith}
 use lib.ListN.{length}
 use Rattle.drawlog.specs.declared.Tested.{Tested}
 use Rattle.drawlog.specs.Promise.{testedOf}
@@ -58,25 +57,13 @@ probe-size-requires c κs =
     given (if1 .before) (if1 .if1 .left) .allowed .short
 
 clear-requires : tie.Need-clear-requires
-clear-requires c κs =
-    let size = c .before .probe-size in
-    let call = c .before .before .before .before .before .before .before .before .before .before in
-    let if1 = call .before .before .before .before .before in
-    omega (arith, size .ensures, call .owners .ensures .1 .1 .suffix .size, given (if1 .before) (if1 .if1 .left) .ready .suffix)
+clear-requires c κs = search needs
 
 clear-requires-2 : tie.Need-clear-requires-2
-clear-requires-2 c κs =
-    let size = c .before .before .before .before .before .probe-size in
-    let call = c .before .before .before .before .before .before .before .before .before .before .before .before .before .before in
-    let if1 = call .before .before .before .before .before in
-    omega (arith, size .ensures, call .owners .ensures .1 .1 .shift .size, given (if1 .before) (if1 .if1 .left) .ready .shift)
+clear-requires-2 c κs = search needs
 
 clear-requires-3 : tie.Need-clear-requires-3
-clear-requires-3 c κs =
-    let size = c .before .before .before .before .before .before .before .before .before .probe-size in
-    let call = c .before .before .before .before .before .before .before .before .before .before .before .before .before .before .before .before .before .before in
-    let if1 = call .before .before .before .before .before in
-    omega (arith, size .ensures, call .owners .ensures .1 .1 .memory .size, given (if1 .before) (if1 .if1 .left) .ready .memory)
+clear-requires-3 c κs = search needs
 
 same-length : tie.Need-same-length
 same-length c = search needs

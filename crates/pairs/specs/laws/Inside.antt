@@ -6,6 +6,7 @@ use native.Mathlib.Nat.{add-zero}
 use native.Mathlib.Omega.{arith}
 use lib.ListN.{length, take, drop, replicate, length-append, length-replicate}
 use Rattle.basics.specs.Rooms.{front}
+use Rattle.basics.specs.laws.Rooms.{cleared}
 use Rattle.scans.specs.declared.Tally.{Tally}
 use Rattle.scans.specs.Occurrences.{occurrences, multiples, firstOf}
 use Rattle.scans.specs.Promise.{Aligning}
@@ -25,8 +26,10 @@ beyond-then : {n : ℕ} {d d₁ d₂ : List ℕ} → Beyond n d d₁ → Beyond 
 beyond-then u v = record { size = v .size ∙ u .size; rest = v .rest ∙ u .rest }
 
 -- a room whose first n entries are cleared after all searches
-pub beyond-cleared : (n : ℕ) {d d₁ d₂ : List ℕ} → Beyond n d d₁ → d₂ ≡ front (replicate n 0) d₁ → d₂ ≡ front (replicate n 0) d
-beyond-cleared n {d} {d₁} u e = e ∙ rw (length-replicate {A = ℕ} n 0) (ap (λ (l : List ℕ). replicate n 0 ++ l) (u .rest))
+pub beyond-cleared : {n : ℕ} {d d₁ d₂ : List ℕ} → n ≤ length d → Beyond n d d₁ → (z : ℕ) → z ≡ n → d₂ ≡ front (replicate (min z (length d₁)) 0) d₁ → d₂ ≡ front (replicate n 0) d
+beyond-cleared {n} {d} {d₁} l u z q e =
+    let c = cleared n d₁ (omega (arith, u .size)) (rw q at e) in
+    c ∙ rw (length-replicate {A = ℕ} n 0) (ap (λ (r : List ℕ). replicate n 0 ++ r) (u .rest))
 
 module _ {m : ℕ} {f h e : List ℕ} where
   pub worked-none : Worked m f h e f h e

@@ -69,7 +69,7 @@ granted {s} {p} {f} {h} {e} {d} {k} q z =
 -- and what they give once the work rooms are cleared
 pub done-is : {s : List ℕ} {p c n u z : ℕ} {f h e d f₁ h₁ e₁ f₂ h₂ e₂ d₁ : List ℕ} {k : Cause} → k ≡ cause s p f h e d → k .refusal ≡ 0 → c ≡ testedOf s .count → z ≡ probeSize p
     → Found (pairs step p s c) 0 d n d₁ → u ≡ unprobed p s c → Worked (probeSize p) f h e f₁ h₁ e₁
-    → f₂ ≡ front (replicate z 0) f₁ → h₂ ≡ front (replicate z 0) h₁ → e₂ ≡ front (replicate z 0) e₁
+    → f₂ ≡ front (replicate (min z (length f₁)) 0) f₁ → h₂ ≡ front (replicate (min z (length h₁)) 0) h₁ → e₂ ≡ front (replicate (min z (length e₁)) 0) e₁
     → Checking s p f h e d (record { refusal = 0; entry = 0; pairs = n; unprobed = u }) f₂ h₂ e₂ d₁
 unfolding checkedOf
 done-is {s} {p} {c} {n} {u} {z} {f} {h} {e} {d} {f₁} {h₁} {e₁} {f₂} {h₂} {e₂} {d₁} {k} q z0 ec ez found eu worked cf ch ce =
@@ -81,8 +81,8 @@ done-is {s} {p} {c} {n} {u} {z} {f} {h} {e} {d} {f₁} {h₁} {e₁} {f₂} {h�
     let eu′ : u ≡ unprobed p s (count s) = rw ct at eu in
     record {
       answer = rw none (λ i. record { refusal = 0; entry = 0; pairs = en i; unprobed = eu′ i });
-      suffix = beyond-cleared (probeSize p) (worked .suffix) (rw ez at cf);
-      shift = beyond-cleared (probeSize p) (worked .shift) (rw ez at ch);
-      memory = beyond-cleared (probeSize p) (worked .memory) (rw ez at ce);
+      suffix = beyond-cleared (given .ready .suffix) (worked .suffix) z ez cf;
+      shift = beyond-cleared (given .ready .shift) (worked .shift) z ez ch;
+      memory = beyond-cleared (given .ready .memory) (worked .memory) z ez ce;
       result = laid-front (g .laid);
     }
