@@ -1,0 +1,104 @@
+// The edges: for each, what is just accepted and what is just refused, by the number of document 01's table.
+use crate::pieces::labelled;
+use crate::pieces::verdict;
+use crate::pieces::wide;
+use crate::sample;
+
+// The entries of a work room that the longest probe needs.
+const WORK: usize = 4096;
+
+// The numbers that the pairs of three replicates take: 4 * 3 * 2.
+const RESULT: usize = 24;
+
+// Puts the eight rows.
+pub(crate) fn put(out: &mut [u8], at: usize) -> usize {
+    let at = lines::word(out, at, b"\nEdges\n");
+    let at = probe(out, at, &[b'a'; 4096]);
+    let at = probe(out, at, &[b'a'; 4097]);
+    let at = memory(out, at, b"abab", &mut [0u32; 4]);
+    let at = memory(out, at, b"abab", &mut [0u32; 3]);
+    let at = log(out, at, &[0u8; 11]);
+    let at = log(out, at, &[0u8; 65537]);
+    let at = draws(out, at, 512);
+    draws(out, at, 513)
+}
+
+// Puts what the table calls and the scans say to a probe.
+fn probe(out: &mut [u8], at: usize, x: &[u8]) -> usize {
+    let at = labelled(out, at, b"probe of ", x.len() as u64);
+    let at = lines::word(out, at, b" bytes: suffix ");
+    let at = verdict(out, at, suffix_refusal(x));
+    let at = lines::word(out, at, b", shift ");
+    let at = verdict(out, at, shift_refusal(x));
+    let at = lines::word(out, at, b", occurrence ");
+    let at = verdict(out, at, tables::occurrence(x).refusal);
+    let at = lines::word(out, at, b", plain ");
+    let at = verdict(out, at, plain_refusal(x));
+    let at = lines::word(out, at, b", remembering ");
+    let at = verdict(out, at, remember_refusal(x, &mut [0u32; WORK]));
+    lines::byte(out, at, b'\n')
+}
+
+// What the suffix call says to a probe.
+fn suffix_refusal(x: &[u8]) -> u32 {
+    tables::suffix(x, &mut [0u32; WORK])
+}
+
+// What the shift call says to a probe.
+fn shift_refusal(x: &[u8]) -> u32 {
+    tables::shift(x, &mut [0u32; WORK])
+}
+
+// What the plain scan says to a probe, over an empty stream.
+fn plain_refusal(x: &[u8]) -> u32 {
+    let mut suffix = [0u32; WORK];
+    let mut shift = [0u32; WORK];
+    let a = scans::plain(x, b"", &mut suffix, &mut shift, &mut [0u32; 0]);
+    a.refusal
+}
+
+// What the remembering scan says to a probe and a memory room, over an empty stream.
+fn remember_refusal(x: &[u8], memory: &mut [u32]) -> u32 {
+    let mut suffix = [0u32; WORK];
+    let mut shift = [0u32; WORK];
+    let a = scans::remember(x, b"", &mut suffix, &mut shift, memory, &mut [0u32; 0]);
+    a.refusal
+}
+
+// Puts what the remembering scan says to a memory room.
+fn memory(out: &mut [u8], at: usize, x: &[u8], room: &mut [u32]) -> usize {
+    let at = labelled(out, at, b"probe of ", x.len() as u64);
+    let at = labelled(out, at, b" bytes, memory room of ", room.len() as u64);
+    let at = lines::word(out, at, b" entries: ");
+    let at = verdict(out, at, remember_refusal(x, room));
+    lines::byte(out, at, b'\n')
+}
+
+// Puts what the log test says to a log.
+fn log(out: &mut [u8], at: usize, bytes: &[u8]) -> usize {
+    let at = labelled(out, at, b"log of ", bytes.len() as u64);
+    let at = lines::word(out, at, b" bytes: ");
+    let at = verdict(out, at, drawlog::test(bytes).refusal);
+    lines::byte(out, at, b'\n')
+}
+
+// Puts what the overlap check of document 01's log says to probes of p draws.
+fn draws(out: &mut [u8], at: usize, p: u32) -> usize {
+    let mut log = [0u8; sample::SIZE];
+    let size = sample::put(&mut log);
+    let at = labelled(out, at, b"log of ", size as u64);
+    let at = labelled(out, at, b" bytes, probes of ", wide(p));
+    let at = lines::word(out, at, b" draws: ");
+    let at = verdict(out, at, check_refusal(&log, p));
+    lines::byte(out, at, b'\n')
+}
+
+// What the overlap check says to a log and probes of p draws.
+fn check_refusal(log: &[u8], p: u32) -> u32 {
+    let mut suffix = [0u32; WORK];
+    let mut shift = [0u32; WORK];
+    let mut memory = [0u32; WORK];
+    let mut result = [0u32; RESULT];
+    let c = pairs::check(log, p, &mut suffix, &mut shift, &mut memory, &mut result);
+    c.refusal
+}

@@ -1,0 +1,49 @@
+// Document 01's log: replicate 3 has draws 0 to 31; 7 has 100 to 107, then 0 to 31; 9 has five draws of 0.
+
+// The bytes of the log: 32, 40 and 5 draws, three entries of the directory, and the trailer.
+pub(crate) const SIZE: usize = 664;
+
+// Puts the log from the front of the room on, and answers how many bytes it has.
+pub(crate) fn put(log: &mut [u8]) -> usize {
+    let at = draws(log, 0, 0, 32);
+    let at = draws(log, at, 100, 108);
+    let at = draws(log, at, 0, 32);
+    let at = lines::word(log, at, &[0u8; 40]);
+    let at = entry(log, at, 3, 0, 256);
+    let at = entry(log, at, 7, 256, 320);
+    let at = entry(log, at, 9, 576, 40);
+    trailer(log, at, 616, 3)
+}
+
+// Puts the draws from `first` on, below `end`, each in 8 bytes.
+fn draws(log: &mut [u8], at: usize, first: u8, end: u8) -> usize {
+    let mut place = at;
+    let mut draw = first;
+    while draw < end {
+        place = lines::byte(log, place, draw);
+        place = lines::word(log, place, &[0u8; 7]);
+        draw += 1;
+    }
+    place
+}
+
+// Puts an entry of the directory.
+fn entry(log: &mut [u8], at: usize, id: u16, start: u16, length: u16) -> usize {
+    let at = number(log, at, id);
+    let at = number(log, at, start);
+    number(log, at, length)
+}
+
+// Puts the trailer, which points back to the directory.
+fn trailer(log: &mut [u8], at: usize, start: u16, count: u16) -> usize {
+    let at = number(log, at, start);
+    let at = number(log, at, count);
+    lines::word(log, at, b"DRAW")
+}
+
+// Puts a number in 4 bytes, low byte first; those of this log are below 2^16.
+fn number(log: &mut [u8], at: usize, n: u16) -> usize {
+    let at = lines::byte(log, at, (n % 256) as u8);
+    let at = lines::byte(log, at, (n / 256) as u8);
+    lines::word(log, at, &[0u8; 2])
+}

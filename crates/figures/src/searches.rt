@@ -1,0 +1,140 @@
+// The second table and further rows: a stream searched for a probe.
+use crate::pieces::counted;
+use crate::pieces::found;
+use crate::pieces::labelled;
+
+// The most bytes of a probe, and the most positions, in the rows that list positions.
+const MOST: usize = 16;
+
+// The long row: so many equal bytes, and how many of them are the probe.
+const STREAM: usize = 61440;
+
+const PROBE: usize = 256;
+
+// Puts the six rows of the second table.
+pub(crate) fn put(out: &mut [u8], at: usize) -> usize {
+    let at = lines::word(
+        out,
+        at,
+        b"\nSearches by both scans; the bound is 2n - m + 1\n",
+    );
+    let at = row(out, at, b"aaaa", b"aaaaaa");
+    let at = row(out, at, b"abab", b"ababab");
+    let at = row(out, at, b"abab", b"abbabab");
+    let at = row(out, at, b"caaa", b"xcaaa");
+    let at = row(out, at, b"caaa", b"xbaaaa");
+    row(out, at, b"aab", b"aa")
+}
+
+// Puts the further rows.
+pub(crate) fn put_further(out: &mut [u8], at: usize) -> usize {
+    let at = lines::word(out, at, b"\nFurther searches\n");
+    let at = further(out, at, b"a", b"ab");
+    let at = further(out, at, b"aaabaabaa", b"aaaaaabaaabaabaa");
+    let at = further(out, at, b"aabaa", b"aaababaa");
+    long(out, at)
+}
+
+// Puts a row of the second table: both scans, and the bound of the remembering one.
+fn row(out: &mut [u8], at: usize, probe: &[u8], stream: &[u8]) -> usize {
+    let at = names(out, at, probe, stream);
+    let at = lines::word(out, at, b"plain ");
+    let at = plain(out, at, probe, stream);
+    let at = lines::word(out, at, b"; remembering ");
+    let at = remember(out, at, probe, stream);
+    let at = bound(out, at, probe.len(), stream.len());
+    lines::byte(out, at, b'\n')
+}
+
+// Puts a further row: the remembering scan.
+fn further(out: &mut [u8], at: usize, probe: &[u8], stream: &[u8]) -> usize {
+    let at = names(out, at, probe, stream);
+    let at = lines::word(out, at, b"remembering ");
+    let at = remember(out, at, probe, stream);
+    lines::byte(out, at, b'\n')
+}
+
+// Puts the probe and the stream.
+fn names(out: &mut [u8], at: usize, probe: &[u8], stream: &[u8]) -> usize {
+    let at = lines::word(out, at, probe);
+    let at = lines::word(out, at, b" in ");
+    let at = lines::word(out, at, stream);
+    lines::word(out, at, b": ")
+}
+
+// Puts what the plain scan answers.
+fn plain(out: &mut [u8], at: usize, probe: &[u8], stream: &[u8]) -> usize {
+    let mut suffix = [0u32; MOST];
+    let mut shift = [0u32; MOST];
+    let mut positions = [0u32; MOST];
+    let a = scans::plain(probe, stream, &mut suffix, &mut shift, &mut positions);
+    found(out, at, &positions, a)
+}
+
+// Puts what the remembering scan answers.
+fn remember(out: &mut [u8], at: usize, probe: &[u8], stream: &[u8]) -> usize {
+    let mut suffix = [0u32; MOST];
+    let mut shift = [0u32; MOST];
+    let mut memory = [0u32; MOST];
+    let mut positions = [0u32; MOST];
+    let a = scans::remember(
+        probe,
+        stream,
+        &mut suffix,
+        &mut shift,
+        &mut memory,
+        &mut positions,
+    );
+    found(out, at, &positions, a)
+}
+
+// Puts 2n - m + 1, the most comparisons of the remembering scan; none is said of a stream that is shorter than the probe.
+fn bound(out: &mut [u8], at: usize, m: usize, n: usize) -> usize {
+    if n < m {
+        return lines::word(out, at, b"; bound -");
+    }
+    if scans::LARGEST < n {
+        return lines::word(out, at, b"; bound -");
+    }
+    let most = n + (n - m) + 1;
+    labelled(out, at, b"; bound ", most as u64)
+}
+
+// Puts the long row, in numbers alone.
+fn long(out: &mut [u8], at: usize) -> usize {
+    let stream = [b'a'; STREAM];
+    let probe = &stream[..PROBE];
+    let at = labelled(out, at, b"", probe.len() as u64);
+    let at = labelled(out, at, b" equal bytes in ", stream.len() as u64);
+    let at = lines::word(out, at, b": plain ");
+    let at = long_plain(out, at, probe, &stream);
+    let at = lines::word(out, at, b"; remembering ");
+    let at = long_remember(out, at, probe, &stream);
+    lines::byte(out, at, b'\n')
+}
+
+// Puts the numbers of the plain scan of a long stream.
+fn long_plain(out: &mut [u8], at: usize, probe: &[u8], stream: &[u8]) -> usize {
+    let mut suffix = [0u32; PROBE];
+    let mut shift = [0u32; PROBE];
+    let mut none = [0u32; 0];
+    let a = scans::plain(probe, stream, &mut suffix, &mut shift, &mut none);
+    counted(out, at, a)
+}
+
+// Puts the numbers of the remembering scan of a long stream.
+fn long_remember(out: &mut [u8], at: usize, probe: &[u8], stream: &[u8]) -> usize {
+    let mut suffix = [0u32; PROBE];
+    let mut shift = [0u32; PROBE];
+    let mut memory = [0u32; PROBE];
+    let mut none = [0u32; 0];
+    let a = scans::remember(
+        probe,
+        stream,
+        &mut suffix,
+        &mut shift,
+        &mut memory,
+        &mut none,
+    );
+    counted(out, at, a)
+}
