@@ -10,15 +10,35 @@ const WORK: usize = 4096;
 // The numbers that the pairs of three replicates take: 4 * 3 * 2.
 const RESULT: usize = 24;
 
-// Puts the eight rows.
+// Puts the edges.
 pub(crate) fn put(out: &mut [u8], at: usize) -> usize {
     let at = lines::word(out, at, b"\nEdges\n");
+    let at = of_probes(out, at);
+    let at = of_rooms(out, at);
+    let at = of_logs(out, at);
+    of_draws(out, at)
+}
+
+// The longest probe, and one that is too long.
+fn of_probes(out: &mut [u8], at: usize) -> usize {
     let at = probe(out, at, &[b'a'; 4096]);
-    let at = probe(out, at, &[b'a'; 4097]);
+    probe(out, at, &[b'a'; 4097])
+}
+
+// The shortest memory room, and one that is too short.
+fn of_rooms(out: &mut [u8], at: usize) -> usize {
     let at = memory(out, at, b"abab", &mut [0u32; 4]);
-    let at = memory(out, at, b"abab", &mut [0u32; 3]);
+    memory(out, at, b"abab", &mut [0u32; 3])
+}
+
+// A log that is too short, and one that is too long.
+fn of_logs(out: &mut [u8], at: usize) -> usize {
     let at = log(out, at, &[0u8; 11]);
-    let at = log(out, at, &[0u8; 65537]);
+    log(out, at, &[0u8; 65537])
+}
+
+// The most draws of a probe, and one more.
+fn of_draws(out: &mut [u8], at: usize) -> usize {
     let at = draws(out, at, 512);
     draws(out, at, 513)
 }
@@ -26,17 +46,33 @@ pub(crate) fn put(out: &mut [u8], at: usize) -> usize {
 // Puts what the table calls and the scans say to a probe.
 fn probe(out: &mut [u8], at: usize, x: &[u8]) -> usize {
     let at = labelled(out, at, b"probe of ", x.len() as u64);
-    let at = lines::word(out, at, b" bytes: suffix ");
-    let at = verdict(out, at, suffix_refusal(x));
-    let at = lines::word(out, at, b", shift ");
-    let at = verdict(out, at, shift_refusal(x));
-    let at = lines::word(out, at, b", occurrence ");
-    let at = verdict(out, at, tables::occurrence(x).refusal);
-    let at = lines::word(out, at, b", plain ");
-    let at = verdict(out, at, plain_refusal(x));
-    let at = lines::word(out, at, b", remembering ");
-    let at = verdict(out, at, remember_refusal(x, &mut [0u32; WORK]));
+    let at = by_tables(out, at, x);
+    let at = by_scans(out, at, x);
     lines::byte(out, at, b'\n')
+}
+
+// Puts what the table calls say to a probe.
+fn by_tables(out: &mut [u8], at: usize, x: &[u8]) -> usize {
+    let at = said(out, at, b" bytes: suffix ", suffix_refusal(x));
+    let at = said(out, at, b", shift ", shift_refusal(x));
+    said(out, at, b", occurrence ", tables::occurrence(x).refusal)
+}
+
+// Puts what the scans say to a probe.
+fn by_scans(out: &mut [u8], at: usize, x: &[u8]) -> usize {
+    let at = said(out, at, b", plain ", plain_refusal(x));
+    said(
+        out,
+        at,
+        b", remembering ",
+        remember_refusal(x, &mut [0u32; WORK]),
+    )
+}
+
+// Puts a word and a verdict.
+fn said(out: &mut [u8], at: usize, label: &[u8], refusal: u32) -> usize {
+    let at = lines::word(out, at, label);
+    verdict(out, at, refusal)
 }
 
 // What the suffix call says to a probe.
@@ -69,16 +105,14 @@ fn remember_refusal(x: &[u8], memory: &mut [u32]) -> u32 {
 fn memory(out: &mut [u8], at: usize, x: &[u8], room: &mut [u32]) -> usize {
     let at = labelled(out, at, b"probe of ", x.len() as u64);
     let at = labelled(out, at, b" bytes, memory room of ", room.len() as u64);
-    let at = lines::word(out, at, b" entries: ");
-    let at = verdict(out, at, remember_refusal(x, room));
+    let at = said(out, at, b" entries: ", remember_refusal(x, room));
     lines::byte(out, at, b'\n')
 }
 
 // Puts what the log test says to a log.
 fn log(out: &mut [u8], at: usize, bytes: &[u8]) -> usize {
     let at = labelled(out, at, b"log of ", bytes.len() as u64);
-    let at = lines::word(out, at, b" bytes: ");
-    let at = verdict(out, at, drawlog::test(bytes).refusal);
+    let at = said(out, at, b" bytes: ", drawlog::test(bytes).refusal);
     lines::byte(out, at, b'\n')
 }
 
@@ -88,8 +122,7 @@ fn draws(out: &mut [u8], at: usize, p: u32) -> usize {
     let size = sample::put(&mut log);
     let at = labelled(out, at, b"log of ", size as u64);
     let at = labelled(out, at, b" bytes, probes of ", wide(p));
-    let at = lines::word(out, at, b" draws: ");
-    let at = verdict(out, at, check_refusal(&log, p));
+    let at = said(out, at, b" draws: ", check_refusal(&log, p));
     lines::byte(out, at, b'\n')
 }
 

@@ -30,9 +30,9 @@ fn main() {
 
 // Writes the first n bytes of the page to standard output.
 fn write(page: &[u8], n: usize) {
-    if page.len() < n {
+    if n <= page.len() {
+        io::write_all(STDOUT_FILENO, &page[..n]);
+    } else {
         io::write_all(STDOUT_FILENO, b"the page is too short\n");
-        return;
     }
-    io::write_all(STDOUT_FILENO, &page[..n]);
 }

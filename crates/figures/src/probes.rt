@@ -9,9 +9,14 @@ const MOST: usize = 8;
 // A byte that is in none of these probes.
 const OTHER: u8 = b'z';
 
-// Puts the five rows: the probe, and the bytes whose occurrence entries the row names.
+// Puts the first table.
 pub(crate) fn put(out: &mut [u8], at: usize) -> usize {
     let at = lines::word(out, at, b"Tables of a probe\n");
+    rows(out, at)
+}
+
+// Puts its five rows: the probe, and the bytes whose occurrence entries the row names.
+fn rows(out: &mut [u8], at: usize) -> usize {
     let at = row(out, at, b"b", b"b");
     let at = row(out, at, b"aab", b"ab");
     let at = row(out, at, b"abab", b"ab");

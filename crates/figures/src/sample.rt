@@ -5,14 +5,24 @@ pub(crate) const SIZE: usize = 664;
 
 // Puts the log from the front of the room on, and answers how many bytes it has.
 pub(crate) fn put(log: &mut [u8]) -> usize {
-    let at = draws(log, 0, 0, 32);
+    let at = blocks(log, 0);
+    let at = directory(log, at);
+    trailer(log, at, 616, 3)
+}
+
+// Puts the three blocks, back to back.
+fn blocks(log: &mut [u8], at: usize) -> usize {
+    let at = draws(log, at, 0, 32);
     let at = draws(log, at, 100, 108);
     let at = draws(log, at, 0, 32);
-    let at = lines::word(log, at, &[0u8; 40]);
+    lines::word(log, at, &[0u8; 40])
+}
+
+// Puts their entries.
+fn directory(log: &mut [u8], at: usize) -> usize {
     let at = entry(log, at, 3, 0, 256);
     let at = entry(log, at, 7, 256, 320);
-    let at = entry(log, at, 9, 576, 40);
-    trailer(log, at, 616, 3)
+    entry(log, at, 9, 576, 40)
 }
 
 // Puts the draws from `first` on, below `end`, each in 8 bytes.

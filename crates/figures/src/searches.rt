@@ -11,17 +11,27 @@ const STREAM: usize = 61440;
 
 const PROBE: usize = 256;
 
-// Puts the six rows of the second table.
+// Puts the second table.
 pub(crate) fn put(out: &mut [u8], at: usize) -> usize {
     let at = lines::word(
         out,
         at,
         b"\nSearches by both scans; the bound is 2n - m + 1\n",
     );
+    let at = matched(out, at);
+    unmatched(out, at)
+}
+
+// Puts the four rows in which the probe occurs.
+fn matched(out: &mut [u8], at: usize) -> usize {
     let at = row(out, at, b"aaaa", b"aaaaaa");
     let at = row(out, at, b"abab", b"ababab");
     let at = row(out, at, b"abab", b"abbabab");
-    let at = row(out, at, b"caaa", b"xcaaa");
+    row(out, at, b"caaa", b"xcaaa")
+}
+
+// Puts the two rows in which it does not.
+fn unmatched(out: &mut [u8], at: usize) -> usize {
     let at = row(out, at, b"caaa", b"xbaaaa");
     row(out, at, b"aab", b"aa")
 }
@@ -32,7 +42,7 @@ pub(crate) fn put_further(out: &mut [u8], at: usize) -> usize {
     let at = further(out, at, b"a", b"ab");
     let at = further(out, at, b"aaabaabaa", b"aaaaaabaaabaabaa");
     let at = further(out, at, b"aabaa", b"aaababaa");
-    long(out, at)
+    long(out, at, &[b'a'; PROBE], &[b'a'; STREAM])
 }
 
 // Puts a row of the second table: both scans, and the bound of the remembering one.
@@ -100,16 +110,14 @@ fn bound(out: &mut [u8], at: usize, m: usize, n: usize) -> usize {
     labelled(out, at, b"; bound ", most as u64)
 }
 
-// Puts the long row, in numbers alone.
-fn long(out: &mut [u8], at: usize) -> usize {
-    let stream = [b'a'; STREAM];
-    let probe = &stream[..PROBE];
-    let at = labelled(out, at, b"", probe.len() as u64);
+// Puts the long row, in numbers alone: equal bytes, searched for their own first ones.
+fn long(out: &mut [u8], at: usize, probe: &[u8], stream: &[u8]) -> usize {
+    let at = lines::number(out, at, probe.len() as u64);
     let at = labelled(out, at, b" equal bytes in ", stream.len() as u64);
     let at = lines::word(out, at, b": plain ");
-    let at = long_plain(out, at, probe, &stream);
+    let at = long_plain(out, at, probe, stream);
     let at = lines::word(out, at, b"; remembering ");
-    let at = long_remember(out, at, probe, &stream);
+    let at = long_remember(out, at, probe, stream);
     lines::byte(out, at, b'\n')
 }
 
