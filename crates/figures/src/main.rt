@@ -6,8 +6,9 @@
 // edges     what is just accepted, and what is just refused
 // sample    document 01's log of three replicates
 //
-// Each row is put into one page, from a place on, and the place after it is answered, as `lines` has it. No number that
-// is printed stands in the program: each is a call's answer, or the length of what was handed to the call.
+// Each row is put into one page, from a place on, and the place after it is answered, as `lines` has it. Each number that
+// is printed is a call's answer, or says what the call was given: a length, or the draws of a probe. The bound is reckoned
+// from the two lengths.
 mod edges; // edges.rt: the edges
 mod pieces; // pieces.rt: what rows are made of
 mod probes; // probes.rt: the rows of the first table

@@ -1,13 +1,11 @@
+-- `sample::draws` is safe and ends. The loop's invariant: the log keeps its length.
+-- Assumes nothing.
 use mathlib.Core.Path.{_≡_}
 use Prim.Native.Nat.{_-_}
 use borrow.Author.Needs.{needs}
 use lib.ListN.{length}
 use Rattle.figures.proofs.sample.draws.Statement.{statement}
 use Rattle.figures.proofs.sample.draws.Tie as tie
-use Rattle.figures.proofs.sample.draws.Reads as reads
-use Rattle.figures.proofs.sample.draws.Lts as lts
-use Rattle.lines.proofs.byte.Reads as byte-reads
-use Rattle.lines.proofs.word.Reads as word-reads
 
 abbrev Inv-loop : tie.InvT-loop
 Inv-loop log₀ at first end place₀ draw₀ t7 log place draw = length log ≡ length log₀
@@ -15,39 +13,30 @@ Inv-loop log₀ at first end place₀ draw₀ t7 log place draw = length log ≡
 abbrev μ-loop : tie.MeasureT-loop
 μ-loop log₀ at first end place₀ draw₀ t7 log place draw = end - draw
 
--- src/sample.rt:22:5
 loop-holds : tie.Need-loop-holds Inv-loop μ-loop
 loop-holds c = search needs
 
--- src/sample.rt:23:9
 byte-requires : tie.Need-byte-requires Inv-loop μ-loop
 byte-requires c κs = search needs
 
--- src/sample.rt:24:41
 slice-aggregate-word : tie.Need-slice-aggregate-word Inv-loop μ-loop
 slice-aggregate-word c = search needs
 
--- src/sample.rt:24:9
 word-requires : tie.Need-word-requires Inv-loop μ-loop
 word-requires c κs = search needs
 
--- src/sample.rt:25:9
 add-draw : tie.Need-add-draw Inv-loop μ-loop
 add-draw c = search needs
 
--- src/sample.rt:22:5
 loop-less : tie.Need-loop-less Inv-loop μ-loop
 loop-less c = search needs
 
--- src/sample.rt:22:5
 loop-again : tie.Need-loop-again Inv-loop μ-loop
 loop-again c = search needs
 
--- src/sample.rt:19:1
 same-length : tie.Need-same-length Inv-loop μ-loop
 same-length c = search needs
 
--- src/sample.rt:19:1
 returns : tie.Need-returns Inv-loop μ-loop
 returns c = search needs
 
