@@ -9,7 +9,7 @@ ghost use Rattle.basics.specs.Lists.{at};
 ghost use Rattle.scans.specs.Plain.{plainPass};
 ghost use Rattle.scans.specs.Remember.{memFrom, memPass};
 ghost use Rattle.scans.specs.inside.Stamp.{recalled, Stands};
-ghost use Rattle.scans.specs.inside.Window.{seenOf, passedOf, Lies, Ahead, Recalling, Quiet};
+ghost use Rattle.scans.specs.inside.Window.{seenOf, passedAs, passedOf, Lies, Ahead, Recalling, Quiet};
 use crate::memory;
 use crate::memory::Place;
 
@@ -134,11 +134,7 @@ fn below(
             let met = meet(y[at], x[i], c);
             c = met.count;
             if !met.equal {
-                return Passed {
-                    left: k,
-                    kept: m - k,
-                    count: c,
-                };
+                return ended(k, m - k, c);
             }
             k = i;
         } else {
@@ -146,28 +142,22 @@ fn below(
             if r <= s {
                 k -= r;
             } else if s == k {
-                return Passed {
-                    left: 0,
-                    kept: m,
-                    count: c,
-                };
+                return ended(0, m, c);
             } else {
                 let stop = k - s;
                 // Counted from i, before the suffix entry is taken off.
                 let behind = m - k;
-                return Passed {
-                    left: stop,
-                    kept: behind,
-                    count: c,
-                };
+                return ended(stop, behind, c);
             }
         }
     }
-    Passed {
-        left: 0,
-        kept: m,
-        count: c,
-    }
+    ended(0, m, c)
+}
+
+fn ended(left: usize, kept: usize, count: u64) -> Passed
+    ensures { λ r. ⌜ r ≡ passedAs left kept count ⌝ }
+{
+    Passed { left, kept, count }
 }
 
 // Entry i of the suffix table, as it stands in its room.

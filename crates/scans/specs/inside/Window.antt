@@ -28,8 +28,11 @@ endOf (suc i) = stopped i
 abbrev pub seenOf : Pass → ℕ → Seen
 seenOf p c = record { left = leftOf (p .end); count = c + p .comps }
 
+abbrev pub passedAs : ℕ → ℕ → ℕ → Passed
+passedAs left kept c = record { left = left; kept = kept; count = c }
+
 abbrev pub passedOf : Pass → ℕ → Passed
-passedOf p c = record { left = leftOf (p .end); kept = p .kept; count = c + p .comps }
+passedOf p c = passedAs (leftOf (p .end)) (p .kept) (c + p .comps)
 
 -- sizes within the limits
 pub record Sizes (x y : List ℕ) : Type 0 where

@@ -3,6 +3,7 @@
 use Prim.Native.Nat.{_+_, _-_, _≤_}
 use mathlib.Core.Path.{_≡_, refl, sym, _∙_}
 use native.Mathlib.Omega.{arith}
+use borrow.Author.Needs.{needs}
 use borrow.Author.Tests.{eqb-true, eqb-false, not-true, not-false}
 use lib.ListN.{length}
 use Rattle.basics.specs.Lists.{at}
@@ -44,17 +45,21 @@ shared-slice-read-meet-2 c = omega arith
 meet-requires : tie.Need-meet-requires Inv-loop μ-loop
 meet-requires c κs = omega arith
 
-sub-t25 : tie.Need-sub-t25 Inv-loop μ-loop
-sub-t25 c = omega arith
+sub-ended : tie.Need-sub-ended Inv-loop μ-loop
+sub-ended c = omega arith
+
+ended-requires : tie.Need-ended-requires Inv-loop μ-loop
+ended-requires c κs = search needs
 
 returns : tie.Need-returns Inv-loop μ-loop
 returns c =
-    let s = c .before .before .before .before .before .before .before .before .before .before .before .before .before .before in
+    let s = c .before .before .before .before .before .before .before .before .before .before .before .before .before .before .before in
     let a = s .args in
-    let l = c .before .before .before .before .before .before .before .before .before .loop in
-    let meet = c .before .before .meet in
-    rule-unequal (a .x .now) (a .y .now) (a .mem .now) (a .start .at) (l .k) (l .k - 1) (l .c) (omega arith) (c .before .before .before .before .before .before .before .on .ensures) (c .before .before .before .before .before .before .recall .ensures)
-    (c .before .before .before .before .before .if1 .taken) (meet .ensures .1) (eqb-false _ _ (sym (meet .ensures .0) ∙ not-true _ (c .if2 .taken)))
+    let l = c .before .before .before .before .before .before .before .before .before .before .loop in
+    let meet = c .before .before .before .meet in
+    c .ended .ensures
+    ∙ rule-unequal (a .x .now) (a .y .now) (a .mem .now) (a .start .at) (l .k) (l .k - 1) (l .c) (omega (arith, c .before .before .before .before .before .before .before .before .before .loop-test .taken)) (c .before .before .before .before .before .before .before .before .on .ensures) (c .before .before .before .before .before .before .before .recall .ensures)
+    (c .before .before .before .before .before .before .if1 .taken) (meet .ensures .1) (eqb-false _ _ (sym (meet .ensures .0) ∙ not-true _ (c .before .if2 .taken)))
     ∙ l .inv .2
 
 loop-less : tie.Need-loop-less Inv-loop μ-loop
@@ -99,14 +104,18 @@ loop-again-2 c =
           ∙ l .inv .2,
     )
 
+ended-requires-2 : tie.Need-ended-requires-2 Inv-loop μ-loop
+ended-requires-2 c κs = search needs
+
 returns-2 : tie.Need-returns-2 Inv-loop μ-loop
 returns-2 c =
-    let s = c .before .before .before .before .before .before .before .before .before .before .before .before in
+    let s = c .before .before .before .before .before .before .before .before .before .before .before .before .before in
     let a = s .args in
-    let l = c .before .before .before .before .before .before .before .loop in
-    let e = suffix-entry (a .x .now) (s .pre .1 .0 .begins) (l .k - 1) (c .before .before .entry .ensures) (omega arith) in
-    rule-matches (a .x .now) (a .y .now) (a .mem .now) (a .start .at) (l .k) (l .k - 1) (l .c) (omega arith) (c .before .before .before .before .before .on .ensures) (c .before .before .before .before .recall .ensures)
-    (e .0) (c .before .if3 .left) (c .if4 .taken)
+    let l = c .before .before .before .before .before .before .before .before .loop in
+    let e = suffix-entry (a .x .now) (s .pre .1 .0 .begins) (l .k - 1) (c .before .before .before .entry .ensures) (omega arith) in
+    c .ended2 .ensures
+    ∙ rule-matches (a .x .now) (a .y .now) (a .mem .now) (a .start .at) (l .k) (l .k - 1) (l .c) (omega arith) (c .before .before .before .before .before .before .on .ensures) (c .before .before .before .before .before .recall .ensures)
+    (e .0) (c .before .before .if3 .left) (c .before .if4 .taken)
     ∙ l .inv .2
 
 sub-stop : tie.Need-sub-stop Inv-loop μ-loop
@@ -117,21 +126,29 @@ sub-stop c =
 sub-behind : tie.Need-sub-behind Inv-loop μ-loop
 sub-behind c = omega arith
 
+ended-requires-3 : tie.Need-ended-requires-3 Inv-loop μ-loop
+ended-requires-3 c κs = search needs
+
 returns-3 : tie.Need-returns-3 Inv-loop μ-loop
 returns-3 c =
-    let s = c .before .before .before .before .before .before .before .before .before .before .before .before in
+    let s = c .before .before .before .before .before .before .before .before .before .before .before .before .before in
     let a = s .args in
-    let l = c .before .before .before .before .before .before .before .loop in
-    let e = suffix-entry (a .x .now) (s .pre .1 .0 .begins) (l .k - 1) (c .before .before .entry .ensures) (omega arith) in
-    rule-stops (a .x .now) (a .y .now) (a .mem .now) (a .start .at) (l .k) (l .k - 1) (l .c) (omega arith) (c .before .before .before .before .before .on .ensures) (c .before .before .before .before .recall .ensures)
-    (e .0) (c .before .if3 .left) (c .if4 .left) (omega (arith, e .1))
+    let l = c .before .before .before .before .before .before .before .before .loop in
+    let e = suffix-entry (a .x .now) (s .pre .1 .0 .begins) (l .k - 1) (c .before .before .before .entry .ensures) (omega arith) in
+    c .ended3 .ensures
+    ∙ rule-stops (a .x .now) (a .y .now) (a .mem .now) (a .start .at) (l .k) (l .k - 1) (l .c) (omega arith) (c .before .before .before .before .before .before .on .ensures) (c .before .before .before .before .before .recall .ensures)
+    (e .0) (c .before .before .if3 .left) (c .before .if4 .left) (omega (arith, e .1))
     ∙ l .inv .2
+
+ended-requires-4 : tie.Need-ended-requires-4 Inv-loop μ-loop
+ended-requires-4 c κs = search needs
 
 returns-4 : tie.Need-returns-4 Inv-loop μ-loop
 returns-4 c =
-    let a = c .before .before .before .before .before .before .args in
-    let l = c .before .loop in
-    pass-none (a .x .now) (a .y .now) (recalled (a .mem .now) (length (a .x .now))) (a .start .at) (l .k) (l .c) (omega arith) ∙ l .inv .2
+    let a = c .before .before .before .before .before .before .before .args in
+    let l = c .before .before .loop in
+    c .ended4 .ensures
+    ∙ pass-none (a .x .now) (a .y .now) (recalled (a .mem .now) (length (a .x .now))) (a .start .at) (l .k) (l .c) (omega arith) ∙ l .inv .2
 
 pub below-spec : {M : Type 1} → statement M
 below-spec =
@@ -146,7 +163,8 @@ below-spec =
     shared-slice-read-meet
     shared-slice-read-meet-2
     meet-requires
-    sub-t25
+    sub-ended
+    ended-requires
     returns
     loop-less
     loop-again
@@ -154,8 +172,11 @@ below-spec =
     sub-k
     loop-less-2
     loop-again-2
+    ended-requires-2
     returns-2
     sub-stop
     sub-behind
+    ended-requires-3
     returns-3
+    ended-requires-4
     returns-4)
