@@ -5,3 +5,5 @@ pub mod Owners
 pub mod Room
 -- the text, owner after owner, and what the check's answer says of it
 pub mod Text
+-- what the check's answer and result room say, with rooms that are large enough
+pub mod Answer
