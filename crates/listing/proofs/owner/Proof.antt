@@ -1,8 +1,6 @@
 -- `owner` meets its contract: a block shorter than a probe makes the unprobed line and no pair, any other the lines of the owner's pairs.
 -- Assumes nothing.
-use mathlib.Core.Path.{_∙_}
 use borrow.Author.Needs.{needs}
-use native.Mathlib.Omega.{arith}
 use Rattle.listing.specs.laws.Room.{holds-room}
 use Rattle.listing.specs.laws.Text.{laid-as, unprobed-turn, unprobed-told, probed-turn, probed-told}
 use Rattle.listing.proofs.owner.Statement.{statement}
@@ -42,7 +40,7 @@ returns-2 c =
     let p = s .pre in
     let is = if1 .before .entry .ensures in (
       laid-as (probed-turn (p .0) (p .1 .0) (p .1 .1) is (if1 .if1 .left)) (call .owned .ensures .0),
-      call .owned .ensures .1 ∙ probed-told (p .0) (p .1 .0) (p .1 .1) is,
+      probed-told (p .0) (p .1 .0) (p .1 .1) is (call .owned .ensures .1),
     )
 
 pub owner-spec : {M : Type 1} → statement M

@@ -100,8 +100,8 @@ module _ {s : List ℕ} {c n : ℕ} {d : List ℕ} (held : Holds s c d n) {a k :
   pub probed-turn : 256 ≤ l .length → pairLines (ownedFrom (l .id) d (n - k) k) ≡ ownerText s a
   probed-turn u = ap pairLines owned-here ∙ sym (owner-probed s a (omega (arith, u, size-is)))
 
-  pub probed-told : k + length (ownedFrom (l .id) d (n - k) k) ≡ length (pairs step draws s (a + 1))
-  probed-told = omega (arith, all-of, ap length owned-here)
+  pub probed-told : {r : ℕ} → r ≡ k + length (ownedFrom (l .id) d (n - k) k) → r ≡ length (pairs step draws s (a + 1))
+  probed-told q = omega (arith, q, all-of, ap length owned-here)
 
 -- THE WHOLE
 pub accepted-whole : {s : List ℕ} {c n u : ℕ} {d : List ℕ} → Holds s c d n → c ≡ count s → u ≡ unprobed draws s c
