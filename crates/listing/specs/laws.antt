@@ -1,6 +1,4 @@
 -- What the proofs cite.
--- the pairs of one owner and of later ones
-pub mod Owners
 -- the pairs in the result room
 pub mod Room
 -- the text, owner after owner, and what the check's answer says of it

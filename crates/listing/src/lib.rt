@@ -20,16 +20,20 @@ ghost use Rattle.listing.specs.Listing.{draws, headLine, pairLine, pairL
 ghost use Rattle.listing.specs.Inside.{pairIn, ownedFrom, Holds};
 ghost use Rattle.listing.specs.Promise.{Written};
 use basics::wide;
+use drawlog::Log;
 
 // The draws of a probe, and its bytes.
 pub const DRAWS: u32 = 32;
 
-pub const PROBE: u32 = 256;
+pub const PROBE: u32 = Log::DRAW * DRAWS;
 
-// The numbers of a pair in the check's result, and of all pairs of 64 replicates.
+// The numbers of a pair in the check's result.
 const PAIR: usize = pairs::PAIR;
 
-const MOST_NUMBERS: usize = 16128;
+// The entries of each work room, which are a probe's bytes, and of the result room: four for each pair of 64 replicates.
+const WORK: usize = 256;
+
+const RESULT: usize = 16128;
 
 const BLANK: u8 = b' ';
 
@@ -45,10 +49,10 @@ struct Done {
 pub fn put(log: &[u8], out: &mut [u8]) -> usize
     ensures { λ r. ⌜ Written (now (log .entry)) (now (out .entry)) r (now (out .exit)) ⌝ }
 {
-    let mut suffix = [0u32; 256];
-    let mut shift = [0u32; 256];
-    let mut memory = [0u32; 256];
-    let mut result = [0u32; MOST_NUMBERS];
+    let mut suffix = [0u32; WORK];
+    let mut shift = [0u32; WORK];
+    let mut memory = [0u32; WORK];
+    let mut result = [0u32; RESULT];
     let checked = pairs::check(log, DRAWS, &mut suffix, &mut shift, &mut memory, &mut result);
     let refusal = checked.refusal;
     if refusal != 0 {

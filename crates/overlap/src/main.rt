@@ -1,11 +1,12 @@
 // Prints the overlap listing of the draw log on standard input, with probes of 32 draws.
 //
 // A read error counts as the end of the input. The text is written by one call.
+use drawlog::Log;
 use libc::STDIN_FILENO;
 use libc::STDOUT_FILENO;
 
 // One byte more than a log may have, so that a longer input is refused 11.
-const INPUT: usize = 65537;
+const INPUT: usize = Log::LONGEST + 1;
 
 // More than the longest listing: 64 unprobed lines and 4,032 pair lines, of at most 44 bytes each, the head and the end.
 const TEXT: usize = 200000;

@@ -1,8 +1,8 @@
 -- What the check's answer and result room say where its rooms are large enough: no cause but the log test's refuses. Assumes nothing.
-use mathlib.Core.Path.{_≡_, refl, sym, ap, _∙_}
+use mathlib.Core.Path.{_≡_, sym, ap, _∙_}
 use mathlib.Core.Logic.{⊎-elim}
 use mathlib.Core.List.{List}
-use Prim.Native.Nat.{ℕ, zero, suc, _-_, _*_, _≤_, min}
+use Prim.Native.Nat.{ℕ, _-_, _*_, _≤_, min}
 use native.Mathlib.Nat.{mul-le-mul}
 use native.Mathlib.Omega.{arith}
 use lib.ListN.{length}
@@ -14,43 +14,28 @@ use Rattle.drawlog.specs.declared.Tested.{Tested}
 use Rattle.drawlog.specs.Log.{count}
 use Rattle.drawlog.specs.Refusal.{causeOf}
 use Rattle.drawlog.specs.Promise.{testedOf}
+use Rattle.drawlog.specs.laws.Promise.{tested-yes, tested-no}
 use Rattle.pairs.specs.declared.Checked.{Checked}
-use Rattle.pairs.specs.Check.{Pair, pairs, unprobed, numbers}
-use Rattle.pairs.specs.Refusal.{needed, ownCause}
-use Rattle.pairs.specs.Promise.{step, checkedOf, cause, Checking}
+use Rattle.pairs.specs.Check.{pairs, unprobed, numbers}
+use Rattle.pairs.specs.Refusal.{ownCause}
+use Rattle.pairs.specs.Promise.{step, cause, Checking}
+use Rattle.pairs.specs.laws.Promise.{checked-refusal, checked-entry, checked-numbers}
 use Rattle.pairs.specs.laws.Check.{length-numbers, pairs-few, tested-few, tested-count}
 use Rattle.pairs.specs.laws.Refusal.{refuses-none, cause-log, cause-own}
 use Rattle.listing.specs.Listing.{draws, refusedLine, listing}
 use Rattle.listing.specs.Inside.{Holds}
 use Rattle.listing.specs.laws.Text.{listing-refused}
 
--- THE ANSWER, number by number
-checked-refusal : (r k : ℕ) (qs : List Pair) (u : ℕ) → checkedOf r k qs u .refusal ≡ r
-unfolding checkedOf
-checked-refusal zero k qs u = refl
-checked-refusal (suc r) k qs u = refl
-
-checked-entry : (r k : ℕ) (qs : List Pair) (u : ℕ) → (r ≡ 0 → ⊥) → checkedOf r k qs u .entry ≡ k
-unfolding checkedOf
-checked-entry zero k qs u n = absurd (n refl)
-checked-entry (suc r) k qs u n = refl
-
-checked-pairs : (r k : ℕ) (qs : List Pair) (u : ℕ) → r ≡ 0 → (checkedOf r k qs u .pairs ≡ length qs) × (checkedOf r k qs u .unprobed ≡ u)
-unfolding checkedOf
-checked-pairs zero k qs u z = (refl, refl)
-checked-pairs (suc r) k qs u z = absurd (omega arith)
-
 -- 64 replicates have no more pairs than the result room holds
 enough : (c : ℕ) → c ≤ 64 → c * (c - 1) ≤ 64 * 63
 enough c h = mul-le-mul {n₁ = c} {m₁ = c - 1} {n₂ = 64} {m₂ = 63} (omega arith) (omega arith)
 
 tested-refusal : (s : List ℕ) → testedOf s .refusal ≡ causeOf s .refusal
-unfolding testedOf
-tested-refusal s = refl
-
-tested-entry : (s : List ℕ) → testedOf s .entry ≡ causeOf s .entry
-unfolding testedOf
-tested-entry s = refl
+tested-refusal s =
+    ⊎-elim
+    (λ (z : causeOf s .refusal ≡ 0). ap (λ (t : Tested). t .refusal) (tested-yes s z) ∙ sym z)
+    (λ (n : causeOf s .refusal ≡ 0 → ⊥). ap (λ (t : Tested). t .refusal) (tested-no s n))
+    (equal-or-not (causeOf s .refusal) 0)
 
 module _ (s f h e d : List ℕ) {r : Checked} {f′ h′ e′ d′ : List ℕ} (told : Checking s draws f h e d r f′ h′ e′ d′)
     (lf : length f ≡ 256) (lh : length h ≡ 256) (le : length e ≡ 256) (ld : length d ≡ 16128) where
@@ -85,7 +70,7 @@ module _ (s f h e d : List ℕ) {r : Checked} {f′ h′ e′ d′ : List ℕ} (
       ∙ checked-entry (cause s draws f h e d .refusal) (cause s draws f h e d .entry) (pairs step draws s (count s)) (unprobed draws s (count s)) (λ z. n (answered ∙ z))
       ∙ ap (λ (k : Cause). k .entry)
       (cause-log (testedOf s) draws (min (length f) (min (length h) (length e))) (length d) (λ z. n (answered ∙ cause-is ∙ z)))
-      ∙ tested-entry s in
+      ∙ ap (λ (t : Tested). t .entry) (tested-no s (λ z. n (refusal-is ∙ z))) in
       rw (refusal-is, k) (listing-refused s (λ z. n (refusal-is ∙ z)))
 
   -- ON SUCCESS: t is what the log test answers
@@ -93,7 +78,7 @@ module _ (s f h e d : List ℕ) {r : Checked} {f′ h′ e′ d′ : List ℕ} (
     numbers-told : (r .pairs ≡ length (pairs step draws s (count s))) × (r .unprobed ≡ unprobed draws s (count s))
     numbers-told =
         let g =
-        checked-pairs (cause s draws f h e d .refusal) (cause s draws f h e d .entry) (pairs step draws s (count s)) (unprobed draws s (count s)) (sym answered ∙ z) in
+        checked-numbers (cause s draws f h e d .refusal) (cause s draws f h e d .entry) (pairs step draws s (count s)) (unprobed draws s (count s)) (sym answered ∙ z) in
         (ap (λ (r : Checked). r .pairs) (told .answer) ∙ g .0, ap (λ (r : Checked). r .unprobed) (told .answer) ∙ g .1)
 
     pub count-told : t .count ≡ count s

@@ -3,21 +3,20 @@ use mathlib.Core.Path.{_≡_, refl, sym, ap, _∙_}
 use mathlib.Core.List.{List, [], _∷_, _++_, append-assoc}
 use Prim.Native.Nat.{ℕ, zero, suc, _+_, _-_, _*_, _≤_, _<_}
 use native.Mathlib.Nat.{add-zero}
-use native.Mathlib.Numerals.{add-one}
 use native.Mathlib.Omega.{arith}
 use borrow.Author.Tests.{eq-eqb, ne-eqb}
 use lib.ListN.{length, drop, length-append}
 use lib.Seq.{getD-drop, drop-at}
 use Rattle.basics.specs.Lists.{at}
 use Rattle.basics.specs.Rooms.{Begins}
-use Rattle.drawlog.specs.Log.{count, idAt}
+use Rattle.drawlog.specs.Log.{idAt}
 use Rattle.drawlog.specs.laws.Promise.{holding}
 use Rattle.pairs.specs.Check.{Pair, pairsOf, pairs, numbers}
 use Rattle.pairs.specs.laws.Check.{numbers-append, length-numbers}
+use Rattle.pairs.specs.laws.Owners.{Each, Bears, Above, of-bears, later, later-above, pairs-split}
 use Rattle.pairs.specs.Promise.{step}
 use Rattle.listing.specs.Listing.{draws}
 use Rattle.listing.specs.Inside.{pairIn, ownedFrom, Holds}
-use Rattle.listing.specs.laws.Owners.{Each, Bears, Above, of-bears, later, later-above, pairs-split}
 
 -- A PAIR behind others
 module _ (ps : List Pair) (q : Pair) (qs : List Pair) where
@@ -77,13 +76,13 @@ pub owned-of : {s : List ℕ} {c n k : ℕ} {d : List ℕ} (a : ℕ) → Holds s
 owned-of {s} {c} {n} {k} {d} a held h e =
     let ps = pairs step draws s a in
     let rs = pairsOf step draws s a in
-    let ts = later s (a + 1) (c - (a + 1)) in
+    let ts = later step draws s (a + 1) (c - (a + 1)) in
     let all = holding s a (omega (arith, held .count)) in
-    let split : pairs step draws s c ≡ ps ++ (rs ++ ts) = pairs-split s a c h in
+    let split : pairs step draws s c ≡ ps ++ (rs ++ ts) = pairs-split step draws s a c h in
     let left : n - k ≡ length (rs ++ ts) = omega (arith, held .number, ap length split, length-append ps (rs ++ ts)) in
     rw (left, e)
     (owned-is (idAt s a) d ps rs ts (rw split at (held .room)) (of-bears step draws s a)
-    (later-above s (all .good) a (c - (a + 1)) (omega (arith, held .count, all .number))))
+    (later-above step draws s (all .good) a (c - (a + 1)) (omega (arith, held .count, all .number))))
 
 pub holds-room : {s : List ℕ} {c n : ℕ} {d : List ℕ} → Holds s c d n → 4 * n ≤ length d
 holds-room {s} {c} held = omega (arith, held .number, held .room .reaches, length-numbers (pairs step draws s c))

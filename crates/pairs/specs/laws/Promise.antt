@@ -19,6 +19,22 @@ use Rattle.pairs.specs.laws.Check.{tested-count}
 use Rattle.pairs.specs.laws.Inside.{beyond-cleared}
 use Rattle.pairs.specs.laws.Refusal.{Allowed, cause-none}
 
+-- THE ANSWER, number by number
+pub checked-refusal : (r k : ℕ) (qs : List Pair) (u : ℕ) → checkedOf r k qs u .refusal ≡ r
+unfolding checkedOf
+checked-refusal zero k qs u = refl
+checked-refusal (suc r) k qs u = refl
+
+pub checked-entry : (r k : ℕ) (qs : List Pair) (u : ℕ) → (r ≡ 0 → ⊥) → checkedOf r k qs u .entry ≡ k
+unfolding checkedOf
+checked-entry zero k qs u n = absurd (n refl)
+checked-entry (suc r) k qs u n = refl
+
+pub checked-numbers : (r k : ℕ) (qs : List Pair) (u : ℕ) → r ≡ 0 → (checkedOf r k qs u .pairs ≡ length qs) × (checkedOf r k qs u .unprobed ≡ u)
+unfolding checkedOf
+checked-numbers zero k qs u z = (refl, refl)
+checked-numbers (suc r) k qs u z = absurd (omega arith)
+
 -- the causes as the code looks for them
 pub cause-is : (s : List ℕ) (p : ℕ) (f h e d : List ℕ) {w : ℕ} {t : Tested} {k : Cause} → t ≡ testedOf s → w ≡ min (length f) (min (length h) (length e))
     → k ≡ causeOf t p w (length d) → k ≡ cause s p f h e d

@@ -9,10 +9,8 @@ use lib.Dec.{eqb}
 use Rattle.drawlog.specs.Log.{count, idAt}
 use Rattle.drawlog.specs.laws.Refusal.{Accepted}
 use Rattle.drawlog.specs.laws.Accepted.{ids-rise}
 use Rattle.pairs.specs.Check.{probe, probed, Pair, pairAt, pairWith, pairsWith, pairsOf, pairs}
 use Rattle.pairs.specs.laws.Check.{pairs-next}
-use Rattle.pairs.specs.Promise.{step}
-use Rattle.listing.specs.Listing.{draws}
 
 -- EACH PAIR of a list
 abbrev pub Each : (Pair → Type 0) → List Pair → Type 0
@@ -65,33 +63,34 @@ of-bears d p s a =
     each-then (Bears (idAt s a)) (probed p s a) (pairsWith d (probe p s a) s a (count s)) (all-bear d (probe p s a) s a (count s))
 
 -- THE PAIRS of n owners from owner a on
-unfoldable pub later : List ℕ → ℕ → ℕ → List Pair
-later s a zero = []
-later s a (suc n) = later s a n ++ pairsOf step draws s (a + n)
+unfoldable pub later : ℕ → ℕ → List ℕ → ℕ → ℕ → List Pair
+later d p s a zero = []
+later d p s a (suc n) = later d p s a n ++ pairsOf d p s (a + n)
 
-pairs-later : (s : List ℕ) (a n : ℕ) → pairs step draws s (a + n) ≡ pairs step draws s a ++ later s a n
-unfolding later pairs
-pairs-later s a zero = rw add-zero (sym (append-nil (pairs step draws s a)))
-pairs-later s a (suc n) =
-    rw add-suc
-    (ap (λ (l : List Pair). l ++ pairsOf step draws s (a + n)) (pairs-later s a n)
-    ∙ append-assoc (pairs step draws s a) (later s a n) (pairsOf step draws s (a + n)))
+module _ (d p : ℕ) (s : List ℕ) where
+  pairs-later : (a n : ℕ) → pairs d p s (a + n) ≡ pairs d p s a ++ later d p s a n
+  unfolding later pairs
+  pairs-later a zero = rw add-zero (sym (append-nil (pairs d p s a)))
+  pairs-later a (suc n) =
+      rw add-suc
+      (ap (λ (l : List Pair). l ++ pairsOf d p s (a + n)) (pairs-later a n)
+      ∙ append-assoc (pairs d p s a) (later d p s a n) (pairsOf d p s (a + n)))
 
--- all pairs: those of the owners before a, of a, and of the later ones
-pub pairs-split : (s : List ℕ) (a c : ℕ) → a < c
-    → pairs step draws s c ≡ pairs step draws s a ++ (pairsOf step draws s a ++ later s (a + 1) (c - (a + 1)))
-pairs-split s a c h =
-    let e : (a + 1) + (c - (a + 1)) ≡ c = omega arith in
-    ap (pairs step draws s) (sym e)
-    ∙ pairs-later s (a + 1) (c - (a + 1))
-    ∙ ap (λ (l : List Pair). l ++ later s (a + 1) (c - (a + 1))) (sym (pairs-next step draws s a))
-    ∙ append-assoc (pairs step draws s a) (pairsOf step draws s a) (later s (a + 1) (c - (a + 1)))
+  -- all pairs: those of the owners before a, of a, and of the later ones
+  pub pairs-split : (a c : ℕ) → a < c → pairs d p s c ≡ pairs d p s a ++ (pairsOf d p s a ++ later d p s (a + 1) (c - (a + 1)))
+  pairs-split a c h =
+      let e : (a + 1) + (c - (a + 1)) ≡ c = omega arith in
+      ap (pairs d p s) (sym e)
+      ∙ pairs-later (a + 1) (c - (a + 1))
+      ∙ ap (λ (l : List Pair). l ++ later d p s (a + 1) (c - (a + 1))) (sym (pairs-next d p s a))
+      ∙ append-assoc (pairs d p s a) (pairsOf d p s a) (later d p s (a + 1) (c - (a + 1)))
 
-pub later-above : (s : List ℕ) → Accepted s → (a n : ℕ) → (a + 1) + n ≤ count s → Each (Above (idAt s a)) (later s (a + 1) n)
-unfolding later
-later-above s good a zero h = tt
-later-above s good a (suc n) h =
-    let up : idAt s a < idAt s ((a + 1) + n) = ids-rise s good a ((a + 1) + n) (omega arith) (omega arith) in
-    each-append (Above (idAt s a)) (later s (a + 1) n) (pairsOf step draws s ((a + 1) + n)) (later-above s good a n (omega arith))
-    (each-map (Bears (idAt s ((a + 1) + n))) (Above (idAt s a)) (λ (q : Pair) (e : q .owner ≡ idAt s ((a + 1) + n)). omega (arith, up, e)) (pairsOf step draws s ((a + 1) + n))
-    (of-bears step draws s ((a + 1) + n)))
+  -- ids rise, so later owners bear higher ones
+  pub later-above : Accepted s → (a n : ℕ) → (a + 1) + n ≤ count s → Each (Above (idAt s a)) (later d p s (a + 1) n)
+  unfolding later
+  later-above good a zero h = tt
+  later-above good a (suc n) h =
+      let up : idAt s a < idAt s ((a + 1) + n) = ids-rise s good a ((a + 1) + n) (omega arith) (omega arith) in
+      each-append (Above (idAt s a)) (later d p s (a + 1) n) (pairsOf d p s ((a + 1) + n)) (later-above good a n (omega arith))
+      (each-map (Bears (idAt s ((a + 1) + n))) (Above (idAt s a)) (λ (q : Pair) (e : q .owner ≡ idAt s ((a + 1) + n)). omega (arith, up, e)) (pairsOf d p s ((a + 1) + n))
+      (of-bears d p s ((a + 1) + n)))
