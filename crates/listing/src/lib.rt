@@ -53,13 +53,27 @@ pub fn put(log: &[u8], out: &mut [u8]) -> usize
     let mut shift = [0u32; WORK];
     let mut memory = [0u32; WORK];
     let mut result = [0u32; RESULT];
-    let checked = pairs::check(log, DRAWS, &mut suffix, &mut shift, &mut memory, &mut result);
+    let checked = pairs::check(
+        log,
+        DRAWS,
+        &mut suffix,
+        &mut shift,
+        &mut memory,
+        &mut result,
+    );
     let refusal = checked.refusal;
     if refusal != 0 {
         return refused_line(out, 0, refusal, checked.entry);
     }
     let tested = drawlog::test(log);
-    accepted(log, tested.count, checked.pairs, checked.unprobed, &result, out)
+    accepted(
+        log,
+        tested.count,
+        checked.pairs,
+        checked.unprobed,
+        &result,
+        out,
+    )
 }
 
 // The listing of an accepted log.
