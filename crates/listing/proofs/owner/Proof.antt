@@ -1,6 +1,7 @@
 -- `owner` meets its contract: a block shorter than a probe makes the unprobed line and no pair, any other the lines of the owner's pairs.
 -- Assumes nothing.
 use borrow.Author.Needs.{needs}
+use native.Mathlib.Omega.{arith}
 use Rattle.listing.specs.laws.Room.{holds-room}
 use Rattle.listing.specs.laws.Text.{laid-as, unprobed-turn, unprobed-told, probed-turn, probed-told}
 use Rattle.listing.proofs.owner.Statement.{statement}
@@ -22,8 +23,8 @@ returns c =
     let s = if1 .before .before .before .before .before in
     let p = s .pre in
     let is = if1 .before .entry .ensures in (
-      laid-as (unprobed-turn (p .0) (p .1 .0) (p .1 .1) is (if1 .if1 .taken)) (call .unprobed-line .ensures),
-      unprobed-told (p .0) (p .1 .0) (p .1 .1) is (if1 .if1 .taken),
+      laid-as (unprobed-turn (p .0) (p .1 .0) (p .1 .1) is (omega (arith, if1 .if1 .taken))) (call .unprobed-line .ensures),
+      unprobed-told (p .0) (p .1 .0) (p .1 .1) is (omega (arith, if1 .if1 .taken)),
     )
 
 owned-requires : tie.Need-owned-requires
@@ -39,7 +40,7 @@ returns-2 c =
     let s = if1 .before .before .before .before .before in
     let p = s .pre in
     let is = if1 .before .entry .ensures in (
-      laid-as (probed-turn (p .0) (p .1 .0) (p .1 .1) is (if1 .if1 .left)) (call .owned .ensures .0),
+      laid-as (probed-turn (p .0) (p .1 .0) (p .1 .1) is (omega (arith, if1 .if1 .left))) (call .owned .ensures .0),
       probed-told (p .0) (p .1 .0) (p .1 .1) is (call .owned .ensures .1),
     )
 

@@ -6,7 +6,7 @@ use native.Mathlib.Omega.{arith}
 use lib.ListN.{length}
 use Rattle.lines.specs.Promise.{Laid}
 use Rattle.lines.specs.laws.Promise.{laid-none, laid-then, laid-length}
-use Rattle.pairs.specs.Check.{Pair, pairs}
+use Rattle.pairs.specs.Check.{pairs}
 use Rattle.pairs.specs.Promise.{step}
 use Rattle.pairs.specs.laws.Check.{pairs-first}
 use Rattle.listing.specs.Listing.{draws, ownersText}
