@@ -1,6 +1,6 @@
 -- Words of the private functions' contracts.
 -- where a text position stands in the memory room
-pub mod Stamp
+pub mod Slots
 -- a window's end as a number; what the window functions take and give
 pub mod Window
 -- what is counted of the occurrences while a scan runs

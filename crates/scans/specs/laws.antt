@@ -13,7 +13,7 @@ pub mod Occurrences
 -- THE CODE'S LOOPS: what they keep while they run.
 pub mod Hits
 pub mod Going
-pub mod Stamps
+pub mod Slots
 pub mod Passes
 pub mod Loops
 -- from what a search gives to what its call promises

@@ -19,7 +19,7 @@
 // 3. It stops so where the remembered length is above the suffix entry, not below it.
 // And as we have it, without any change to the steps or to their number:
 // 4. Only the last m positions are remembered, in a room of m entries that is cleared once before and once after: an
-//    entry carries the round in which it was written (`memory`).
+//    entry carries the position for which it was written (`memory`).
 // 5. Above the last position where a length was remembered nothing is looked up (`windows::remembering`).
 ghost use mathlib.Core.Path.{_≡_};
 ghost use Prim.Native.Nat.{_≤_};
@@ -34,7 +34,6 @@ mod memory; // memory.rt: the remembered lengths
 mod moves; // moves.rt: from one window to the next
 mod windows; // windows.rt: one window, where bytes are compared
 
-use hits::Hits;
 use loops::Run;
 
 // The most bytes that a probe, and that a stream, may have.
@@ -113,7 +112,7 @@ pub fn remember(
     ensures { λ r. ⌜ Rememberingly (now (probe .entry)) (now (stream .entry)) (now (suffix .entry)) (now (shift .entry)) (now (memory .entry)) (now (positions .entry)) r
         (now (suffix .exit)) (now (shift .exit)) (now (memory .exit)) (now (positions .exit)) ⌝ }
 {
-    let s = search(probe, stream, suffix, shift, memory, positions, 0);
+    let s = search(probe, stream, suffix, shift, memory, positions, 1);
     answer_of(s, positions.len())
 }
 
@@ -129,12 +128,12 @@ pub fn aligned(
     ensures { λ r. ⌜ Aligning (now (probe .entry)) (now (stream .entry)) (now (suffix .entry)) (now (shift .entry)) (now (memory .entry)) step r
         (now (suffix .exit)) (now (shift .exit)) (now (memory .exit)) ⌝ }
 {
-    let mut none = [0u32; 0];
-    let s = search(probe, stream, suffix, shift, memory, &mut none, step);
-    tally_of(s)
+    let mut first = [0u32; 1];
+    let s = search(probe, stream, suffix, shift, memory, &mut first, step);
+    tally_of(s, first[0])
 }
 
-// The remembering search: what `remember` and `aligned` have in common.
+// The remembering search, which notes the places at multiples of the step: what `remember` and `aligned` have in common.
 fn search(
     probe: &[u8],
     stream: &[u8],
@@ -206,13 +205,8 @@ fn causes(m: usize, n: usize, smallest: usize) -> u32
 fn refused(refusal: u32) -> Searched
     ensures { λ r. ⌜ r ≡ refusedBy refusal ⌝ }
 {
-    let hits = Hits {
-        all: 0,
-        number: 0,
-        first: 0,
-    };
     let run = Run {
-        hits,
+        hits: 0,
         windows: 0,
         comparisons: 0,
     };
@@ -224,26 +218,24 @@ fn answer_of(s: Searched, n: usize) -> Answer
     ensures { λ r. ⌜ r ≡ answerBy s n ⌝ }
 {
     let run = s.run;
-    let hits = run.hits;
-    let written = basics::smaller(hits.all, n);
+    let written = basics::smaller(run.hits, n);
     Answer {
         refusal: s.refusal,
-        occurrences: hits.all as u64,
+        occurrences: run.hits as u64,
         written: written as u64,
         windows: run.windows,
         comparisons: run.comparisons,
     }
 }
 
-// The occurrences at multiples of the step.
-fn tally_of(s: Searched) -> Tally
-    ensures { λ r. ⌜ r ≡ tallyBy s ⌝ }
+// The number of the places noted, and the first of them.
+fn tally_of(s: Searched, first: u32) -> Tally
+    ensures { λ r. ⌜ r ≡ tallyBy s first ⌝ }
 {
     let run = s.run;
-    let hits = run.hits;
     Tally {
         refusal: s.refusal,
-        number: hits.number as u64,
-        first: hits.first as u64,
+        number: run.hits as u64,
+        first: first as u64,
     }
 }

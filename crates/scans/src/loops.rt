@@ -2,39 +2,33 @@
 ghost use mathlib.Core.Path.{_≡_};
 ghost use lib.ListN.{length, drop, replicate};
 ghost use Rattle.basics.specs.Rooms.{front};
-ghost use Rattle.scans.specs.Trace.{positions};
 ghost use Rattle.scans.specs.Plain.{plain};
 ghost use Rattle.scans.specs.Remember.{remembering};
 ghost use Rattle.scans.specs.Promise.{reported};
 ghost use Rattle.scans.specs.inside.Window.{Sizes, Moving, Recalling};
-ghost use Rattle.scans.specs.inside.Hits.{runOf};
+ghost use Rattle.scans.specs.inside.Hits.{placesOf, runOf};
 use crate::hits;
-use crate::hits::Hits;
 use crate::memory;
 use crate::memory::Place;
 use crate::moves;
 use crate::windows;
 
-// What a whole scan gives.
+// What a whole scan gives: how many places it noted, its windows and its comparisons.
 pub(crate) struct Run {
-    pub hits: Hits,
+    pub hits: usize,
     pub windows: u64,
     pub comparisons: u64,
 }
 
-// The plain scan, over tables that are ready.
+// The plain scan, over tables that are ready; it notes every place.
 pub(crate) fn plainly(x: &[u8], y: &[u8], shift: &[u32], occ: &[u32; 256], room: &mut [u32]) -> Run
     requires { ⌜ Sizes (now x) (now y) ⌝ }
     requires { ⌜ Moving (now x) (now shift) (now occ) ⌝ }
-    ensures run { λ r. ⌜ r ≡ runOf 0 (plain (now (x .entry)) (now (y .entry))) ⌝ }
-    ensures room { λ r. ⌜ now (room .exit) ≡ reported (positions (plain (now (x .entry)) (now (y .entry)))) (now (room .entry)) ⌝ }
+    ensures run { λ r. ⌜ r ≡ runOf 1 (plain (now (x .entry)) (now (y .entry))) ⌝ }
+    ensures room { λ r. ⌜ now (room .exit) ≡ reported (placesOf 1 (plain (now (x .entry)) (now (y .entry)))) (now (room .entry)) ⌝ }
 {
     let mut j = 0;
-    let mut hits = Hits {
-        all: 0,
-        number: 0,
-        first: 0,
-    };
+    let mut hits = 0;
     let mut visited: u64 = 0;
     let mut count: u64 = 0;
     while j + x.len() <= y.len() {
@@ -42,7 +36,7 @@ pub(crate) fn plainly(x: &[u8], y: &[u8], shift: &[u32], occ: &[u32; 256], room:
         let left = w.left;
         count = w.count;
         visited += 1;
-        hits = hits::note(room, hits, 0, j, left);
+        hits = hits::note(room, hits, 1, j, left);
         j += moves::by(x, y, shift, occ, j, left);
     }
     Run {
@@ -52,7 +46,8 @@ pub(crate) fn plainly(x: &[u8], y: &[u8], shift: &[u32], occ: &[u32; 256], room:
     }
 }
 
-// The remembering scan with its memory room cleared before and after, over tables that are ready.
+// The remembering scan with its memory room cleared before and after, over tables that are ready; it notes the places at
+// multiples of the step.
 pub(crate) fn remembering(
     x: &[u8],
     y: &[u8],
@@ -67,7 +62,7 @@ pub(crate) fn remembering(
     requires { ⌜ Moving (now x) (now shift) (now occ) ⌝ }
     requires { ⌜ Recalling (now x) (now suffix) (now mem) ⌝ }
     ensures run { λ r. ⌜ r ≡ runOf step (remembering (now (x .entry)) (now (y .entry))) ⌝ }
-    ensures room { λ r. ⌜ now (room .exit) ≡ reported (positions (remembering (now (x .entry)) (now (y .entry)))) (now (room .entry)) ⌝ }
+    ensures room { λ r. ⌜ now (room .exit) ≡ reported (placesOf step (remembering (now (x .entry)) (now (y .entry)))) (now (room .entry)) ⌝ }
     ensures zeros { λ r. ⌜ now (mem .exit) ≡ front (replicate (length (now (x .entry))) 0) (now (mem .entry)) ⌝ }
 {
     basics::clear(mem, x.len());
@@ -93,21 +88,13 @@ fn through(
     requires { ⌜ Recalling (now x) (now suffix) (now mem) ⌝ }
     requires { ⌜ now mem ≡ front (replicate (length (now x)) 0) (now mem) ⌝ }
     ensures run { λ r. ⌜ r ≡ runOf step (remembering (now (x .entry)) (now (y .entry))) ⌝ }
-    ensures room { λ r. ⌜ now (room .exit) ≡ reported (positions (remembering (now (x .entry)) (now (y .entry)))) (now (room .entry)) ⌝ }
+    ensures room { λ r. ⌜ now (room .exit) ≡ reported (placesOf step (remembering (now (x .entry)) (now (y .entry)))) (now (room .entry)) ⌝ }
     ensures rest { λ r. ⌜ drop (length (now (x .entry))) (now (mem .exit)) ≡ drop (length (now (x .entry))) (now (mem .entry)) ⌝ }
 {
     let m = x.len();
-    let mut p = Place {
-        at: 0,
-        slot: 0,
-        stamp: 0,
-    };
+    let mut p = Place { at: 0, slot: 0 };
     let mut top = 0;
-    let mut hits = Hits {
-        all: 0,
-        number: 0,
-        first: 0,
-    };
+    let mut hits = 0;
     let mut visited: u64 = 0;
     let mut count: u64 = 0;
     while p.at + m <= y.len() {

@@ -1,40 +1,32 @@
-// The remembered lengths. Only the last m positions are needed: position h stands at slot h mod m of the memory room, in
-// round h / m. Its entry is the stamp of the round, (h / m) * (m + 1), and the length added; what an earlier round left
-// there is below the stamp and reads as 0. So nothing is cleared while a scan runs.
+// The remembered lengths. Only the last m positions are needed: position h stands at slot h mod m of the memory room. Its
+// entry is h and the length added. What an earlier position left in the slot is at most h, since it lies m or more before
+// h and a length is at most m: it reads as 0. So nothing is cleared while a scan runs.
 //
-// Slot and stamp go along with the position: no division is made.
+// The slot goes along with the position: no division is made.
 ghost use mathlib.Core.Path.{_≡_};
 ghost use Prim.Native.Nat.{_+_, _<_, _≤_};
 ghost use lib.ListN.{length};
-ghost use Rattle.scans.specs.inside.Stamp.{recalled, Stands};
+ghost use Rattle.scans.specs.inside.Slots.{recalled, Stands};
 ghost use Rattle.scans.specs.inside.Window.{Kept};
 
-// A text position, its slot in the memory room and the stamp of its round.
+// A text position and its slot in the memory room.
 pub(crate) struct Place {
     pub at: usize,
     pub slot: usize,
-    pub stamp: usize,
 }
 
-// The place d on from p, in a room of m slots. It lies in the same round or in the next.
+// The place d on from p, in a room of m slots.
 pub(crate) fn on(m: usize, p: Place, d: usize) -> Place
     requires { ⌜ (0 < m) × (m ≤ 4096) × (d ≤ m) × (p .at ≤ 33554432) ⌝ }
     requires { ⌜ Stands m (p .at) p ⌝ }
     ensures { λ r. ⌜ Stands m (p .at + d) r ⌝ }
 {
+    let at = p.at + d;
     let slot = p.slot + d;
     if slot < m {
-        Place {
-            at: p.at + d,
-            slot,
-            stamp: p.stamp,
-        }
+        Place { at, slot }
     } else {
-        Place {
-            at: p.at + d,
-            slot: slot - m,
-            stamp: p.stamp + m + 1,
-        }
+        Place { at, slot: slot - m }
     }
 }
 
@@ -45,7 +37,7 @@ pub(crate) fn recall(mem: &[u32], m: usize, p: Place) -> usize
     ensures { λ r. ⌜ r ≡ recalled (now (mem .entry)) m (p .at) ⌝ }
 {
     let slot = p.slot;
-    basics::less(basics::wide(mem[slot]), p.stamp)
+    basics::less(basics::wide(mem[slot]), p.at)
 }
 
 // Remembers v at the last position of the window at `start`: one past the last position where anything is remembered.
@@ -60,6 +52,6 @@ pub(crate) fn keep(mem: &mut [u32], m: usize, start: Place, top: usize, v: usize
     }
     let last = on(m, start, m - 1);
     let slot = last.slot;
-    mem[slot] = (last.stamp + v) as u32;
+    mem[slot] = (last.at + v) as u32;
     last.at + 1
 }

@@ -22,12 +22,12 @@ pub(crate) fn by(
     ensures value { λ r. ⌜ r ≡ move (now (x .entry)) (now (y .entry)) j (endOf left) ⌝ }
     ensures bounds { λ r. ⌜ (1 ≤ r) × (r ≤ length (now (x .entry))) ⌝ }
 {
-    // After a match entry 0, after a stop at i entry i.
-    let i = basics::less(left, 1);
-    let by_shift = entry(shift, i);
     if left == 0 {
-        return by_shift;
+        let period = entry(shift, 0);
+        return period;
     }
+    let i = left - 1;
+    let by_shift = entry(shift, i);
     let b = index(y[j + i]);
     let by_byte = basics::less(basics::wide(occ[b]), x.len() - left);
     basics::larger(by_shift, by_byte)

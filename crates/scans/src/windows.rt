@@ -8,7 +8,7 @@ ghost use lib.ListN.{length};
 ghost use Rattle.basics.specs.Lists.{at};
 ghost use Rattle.scans.specs.Plain.{plainPass};
 ghost use Rattle.scans.specs.Remember.{memFrom, memPass};
-ghost use Rattle.scans.specs.inside.Stamp.{recalled, Stands};
+ghost use Rattle.scans.specs.inside.Slots.{recalled, Stands};
 ghost use Rattle.scans.specs.inside.Window.{seenOf, passedAs, passedOf, Lies, Ahead, Recalling, Quiet};
 use crate::memory;
 use crate::memory::Place;

@@ -1,4 +1,4 @@
--- `scans::aligned` meets its contract: the places at multiples of the step.
+-- `scans::aligned` meets its contract: the first place stands in the room of one entry.
 -- Assumes nothing.
 use borrow.Author.Needs.{needs}
 use Rattle.scans.specs.laws.Search.{aligned-is}
@@ -10,6 +10,9 @@ slice-aggregate-search c = search needs
 
 search-requires : tie.Need-search-requires
 search-requires c κs = search needs
+
+array-read-tally-of : tie.Need-array-read-tally-of
+array-read-tally-of c = search needs
 
 tally-of-requires : tie.Need-tally-of-requires
 tally-of-requires c κs = search needs
@@ -24,7 +27,7 @@ same-length-3 : tie.Need-same-length-3
 same-length-3 c = search needs
 
 returns : tie.Need-returns
-returns c = aligned-is (c .before .before .before .before .before .before .before .before .search .ensures) (c .tally-of .ensures)
+returns c = let search = c .before .before .before .before .before .before .before .before in aligned-is (search .search .ensures) (c .tally-of .ensures)
 
 pub aligned-spec : {M : Type 1} → statement M
 aligned-spec =
@@ -32,6 +35,7 @@ aligned-spec =
     (tie.spec
     slice-aggregate-search
     search-requires
+    array-read-tally-of
     tally-of-requires
     same-length
     same-length-2

@@ -9,10 +9,10 @@ smaller-requires c κs = search needs
 
 returns : tie.Need-returns
 returns c =
-    let s = c .before .before .before .args .s in
+    let s = c .before .before .args .s in
     λ k. record {
       refusal = s .refusal;
-      occurrences = s .run .hits .all;
+      occurrences = s .run .hits;
       written = c .smaller .ensures k;
       windows = s .run .windows;
       comparisons = s .run .comparisons;

@@ -38,7 +38,7 @@ returns c =
     let ws = plain (a .probe .now) (a .stream .now) in
     let refusal = prepare .prepare .result .refusal in
     plain-is (smaller .smaller .ensures) (prepare .prepare .ensures)
-    (c .answer-of .ensures ∙ ap (λ (s : Searched). answerBy s (length (a .positions .now))) (c .before .refused .ensures ∙ refused-is refusal 0 ws (if1 .if1 .taken)))
+    (c .answer-of .ensures ∙ ap (λ (s : Searched). answerBy s (length (a .positions .now))) (c .before .refused .ensures ∙ refused-is refusal 1 ws (if1 .if1 .taken)))
     (sym (reported-kept _ _ _ (if1 .if1 .taken)))
 
 plainly-requires : tie.Need-plainly-requires
@@ -72,7 +72,7 @@ returns-2 c =
     let ws = plain (a .probe .now) (a .stream .now) in
     let refusal = prepare .prepare .result .refusal in
     plain-is (smaller .smaller .ensures) (prepare .prepare .ensures)
-    (c .answer-of2 .ensures ∙ ap (answerBy (record { refusal = 0; run = run .plainly .result })) (run .plainly .kept .1 .1 .1 .1 .0) ∙ ap (λ (s : Searched). answerBy s (length (a .positions .now))) (run-is refusal 0 ws (if1 .if1 .left) (run .plainly .ensures .0)))
+    (c .answer-of2 .ensures ∙ ap (answerBy (record { refusal = 0; run = run .plainly .result })) (run .plainly .kept .1 .1 .1 .1 .0) ∙ ap (λ (s : Searched). answerBy s (length (a .positions .now))) (run-is refusal 1 ws (if1 .if1 .left) (run .plainly .ensures .0)))
     (rw (if1 .if1 .left) (run .plainly .ensures .1))
 
 pub plain-spec : {M : Type 1} → statement M

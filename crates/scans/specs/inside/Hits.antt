@@ -1,36 +1,25 @@
--- What is counted of the occurrences while a scan runs, and what a whole run gives. Assumes nothing.
-use mathlib.Core.Bool.{cond, _&&_}
+-- What is noted of the occurrences while a scan runs, and what a whole run gives. Assumes nothing.
+use mathlib.Core.Bool.{cond}
 use mathlib.Core.List.{List}
 use Prim.Native.Nat.{ℕ, _+_}
-use lib.Dec.{eqb}
 use lib.ListN.{length, set}
-use Rattle.scans.specs.declared.hits.Hits.{Hits}
 use Rattle.scans.specs.declared.loops.Run.{Run}
 use Rattle.scans.specs.Trace.{End, matched, stopped, Window, comparisons, positions}
-use Rattle.scans.specs.Occurrences.{onStep, multiples, firstOf}
+use Rattle.scans.specs.Occurrences.{onStep, multiples}
 
--- the places ps counted: all of them, those at multiples of the step d, and the first of these
-abbrev pub hitsOf : ℕ → List ℕ → Hits
-hitsOf d ps = record { all = length ps; number = length (multiples d ps); first = firstOf (multiples d ps) }
-
--- one more place, j
-abbrev pub countedAt : ℕ → ℕ → Hits → Hits
-countedAt d j h =
-    record {
-      all = h .all + 1;
-      number = h .number + cond (onStep d j) 1 0;
-      first = cond (onStep d j && eqb (h .number) 0) j (h .first);
-    }
-
--- the count, and the position room, after a window at j that ended so
-abbrev pub countedBy : ℕ → ℕ → End → Hits → Hits
-countedBy d j matched h = countedAt d j h
+-- a window at j that ended so: how many places are noted after it, of which h were before, and the position room r; only places at multiples of the step d are
+abbrev pub countedBy : ℕ → ℕ → End → ℕ → ℕ
+countedBy d j matched h = cond (onStep d j) (h + 1) h
 countedBy d j (stopped i) h = h
 
-abbrev pub notedBy : ℕ → End → ℕ → List ℕ → List ℕ
-notedBy j matched k d = set d k j
-notedBy j (stopped i) k d = d
+abbrev pub notedBy : ℕ → ℕ → End → ℕ → List ℕ → List ℕ
+notedBy d j matched h r = cond (onStep d j) (set r h j) r
+notedBy d j (stopped i) h r = r
 
--- the numbers of a whole trace, with the step d
+-- the places of a trace that are noted, with the step d
+abbrev pub placesOf : ℕ → List Window → List ℕ
+placesOf d ws = multiples d (positions ws)
+
+-- the numbers of a whole trace
 abbrev pub runOf : ℕ → List Window → Run
-runOf d ws = record { hits = hitsOf d (positions ws); windows = length ws; comparisons = comparisons ws }
+runOf d ws = record { hits = length (placesOf d ws); windows = length ws; comparisons = comparisons ws }

@@ -11,34 +11,34 @@ use Rattle.scans.specs.declared.Answer.{Answer}
 use Rattle.scans.specs.declared.Tally.{Tally}
 use Rattle.scans.specs.declared.Prepared.{Prepared}
 use Rattle.scans.specs.declared.Searched.{Searched}
-use Rattle.scans.specs.Trace.{Window, positions}
+use Rattle.scans.specs.Trace.{Window}
 use Rattle.scans.specs.Remember.{remembering}
 use Rattle.scans.specs.Refusal.{refusalOf}
 use Rattle.scans.specs.Promise.{reportedAfter}
-use Rattle.scans.specs.inside.Hits.{runOf}
+use Rattle.scans.specs.inside.Hits.{placesOf, runOf}
 
 -- a refusal, beside which every number is 0
 abbrev pub refusedBy : ℕ → Searched
-refusedBy r = record { refusal = r; run = record { hits = record { all = 0; number = 0; first = 0 }; windows = 0; comparisons = 0 } }
+refusedBy r = record { refusal = r; run = record { hits = 0; windows = 0; comparisons = 0 } }
 
 -- a search with this refusal (0: none), step and trace
 abbrev pub searchedOf : ℕ → ℕ → List Window → Searched
 searchedOf zero d ws = record { refusal = 0; run = runOf d ws }
 searchedOf (suc r) d ws = refusedBy (suc r)
 
--- the answers made of it; the position room has n entries
+-- the answers made of it: the position room has n entries, or the first place noted is f
 abbrev pub answerBy : Searched → ℕ → Answer
 answerBy s n =
     record {
       refusal = s .refusal;
-      occurrences = s .run .hits .all;
-      written = min (s .run .hits .all) n;
+      occurrences = s .run .hits;
+      written = min (s .run .hits) n;
       windows = s .run .windows;
       comparisons = s .run .comparisons;
     }
 
-abbrev pub tallyBy : Searched → Tally
-tallyBy s = record { refusal = s .refusal; number = s .run .hits .number; first = s .run .hits .first }
+abbrev pub tallyBy : Searched → ℕ → Tally
+tallyBy s f = record { refusal = s .refusal; number = s .run .hits; first = f }
 
 -- the remembering search, of the probe x, the stream y, the rooms s, h, e, p and the step d
 pub record Searching (x y s h e p : List ℕ) (d : ℕ) (r : Searched) (s′ h′ e′ p′ : List ℕ) : Type 0 where
@@ -46,7 +46,7 @@ pub record Searching (x y s h e p : List ℕ) (d : ℕ) (r : Searched) (s′ h�
   pub suffix : s′ ≡ roomAfter (r .refusal) (suffixTable x) s
   pub shift : h′ ≡ roomAfter (r .refusal) (shiftTable x) h
   pub memory : e′ ≡ roomAfter (r .refusal) (replicate (length x) 0) e
-  pub places : p′ ≡ reportedAfter (r .refusal) (positions (remembering x y)) p
+  pub places : p′ ≡ reportedAfter (r .refusal) (placesOf d (remembering x y)) p
 
 -- the causes looked for and the tables written, of the probe x, a stream of n bytes, and work rooms of which the smallest has k entries
 pub record Preparing (x : List ℕ) (n k : ℕ) (s h : List ℕ) (r : Prepared) (s′ h′ : List ℕ) : Type 0 where

@@ -14,7 +14,7 @@ use Rattle.scans.specs.declared.windows.Passed.{Passed}
 use Rattle.scans.specs.Trace.{End, matched, stopped, Pass}
 use Rattle.scans.specs.Remember.{remember}
 use Rattle.scans.specs.Refusal.{largest}
-use Rattle.scans.specs.inside.Stamp.{recalled}
+use Rattle.scans.specs.inside.Slots.{recalled}
 
 abbrev pub leftOf : End → ℕ
 leftOf matched = 0

@@ -4,10 +4,10 @@ use mathlib.Core.List.{List, [], _∷_, _++_, append-assoc, append-nil}
 use Prim.Native.Nat.{ℕ, _+_}
 use native.Mathlib.Omega.{arith}
 use lib.ListN.{length, length-append}
-use Rattle.scans.specs.declared.hits.Hits.{Hits}
 use Rattle.scans.specs.Trace.{End, matched, stopped, Pass, Window, window, comparisons, found, positions}
+use Rattle.scans.specs.Occurrences.{multiples}
 use Rattle.scans.specs.Promise.{reported}
-use Rattle.scans.specs.inside.Hits.{hitsOf, runOf}
+use Rattle.scans.specs.inside.Hits.{placesOf, runOf}
 use Rattle.scans.specs.laws.Hits.{Noted}
 
 -- a trace with one window more
@@ -61,12 +61,12 @@ module _ {whole rest : List Window} {ps : List ℕ} {w c : ℕ} (g : Going whole
   going-places : ps ≡ positions whole
   going-places = g .positions ∙ ap positions all-done
 
-  pub going-run : {step : ℕ} {d₀ d : List ℕ} {h : Hits} → Noted step ps d₀ d h → record { hits = h; windows = w; comparisons = c } ≡ runOf step whole
+  pub going-run : {step : ℕ} {d₀ d : List ℕ} {h : ℕ} → Noted step ps d₀ d h → record { hits = h; windows = w; comparisons = c } ≡ runOf step whole
   going-run {step} {d₀} {d} {h} n =
-      let hits : h ≡ hitsOf step (positions whole) = n .hits ∙ ap (hitsOf step) going-places in
+      let hits : h ≡ length (placesOf step whole) = n .hits ∙ ap (λ (l : List ℕ). length (multiples step l)) going-places in
       let windows : w ≡ length whole = g .windows ∙ ap length all-done in
       let count : c ≡ comparisons whole = g .count ∙ ap comparisons all-done in
       λ k. record { hits = hits k; windows = windows k; comparisons = count k }
 
-  pub going-room : {step : ℕ} {d₀ d : List ℕ} {h : Hits} → Noted step ps d₀ d h → d ≡ reported (positions whole) d₀
-  going-room {step} {d₀} n = n .room ∙ ap (λ (l : List ℕ). reported l d₀) going-places
+  pub going-room : {step : ℕ} {d₀ d : List ℕ} {h : ℕ} → Noted step ps d₀ d h → d ≡ reported (placesOf step whole) d₀
+  going-room {step} {d₀} n = n .room ∙ ap (λ (l : List ℕ). reported (multiples step l) d₀) going-places

@@ -9,19 +9,18 @@ use Rattle.basics.specs.Rooms.{front}
 use Rattle.scans.specs.declared.windows.Seen.{Seen}
 use Rattle.scans.specs.declared.windows.Passed.{Passed}
 use Rattle.scans.specs.declared.memory.Place.{Place}
-use Rattle.scans.specs.declared.hits.Hits.{Hits}
 use Rattle.scans.specs.Trace.{End, matched, stopped, Pass, found}
 use Rattle.scans.specs.Move.{move}
 use Rattle.scans.specs.Plain.{plainPass, plainScan, plain}
 use Rattle.scans.specs.Remember.{memPass, after, memScan, remembering}
-use Rattle.scans.specs.inside.Stamp.{recalled, Stands}
+use Rattle.scans.specs.inside.Slots.{recalled, Stands}
 use Rattle.scans.specs.inside.Window.{leftOf, endOf, seenOf, passedOf, Sizes, Memory, Quiet, Kept}
 use Rattle.scans.specs.laws.Plain.{plain-comps, plain-step}
 use Rattle.scans.specs.laws.Remember.{mem-ext, mem-comps, mem-step}
 use Rattle.scans.specs.laws.Move.{move-pos, move-le}
 use Rattle.scans.specs.laws.Going.{Going, going-none, going-more}
 use Rattle.scans.specs.laws.Hits.{Noted}
-use Rattle.scans.specs.laws.Stamps.{place-first, place-at, place-again, cleared}
+use Rattle.scans.specs.laws.Slots.{place-first, place-at, place-again, cleared}
 
 -- the numbers stay in range: a window moves by at least 1, compares at most m times and reports at most once
 pub record Counted (x y : List ℕ) (j : ℕ) (ps : List ℕ) (w c : ℕ) : Type 0 where
@@ -93,10 +92,10 @@ plain-next {x} {y} {j} {ps} {w} {c} {r} {s} z g l q v = rw e (go (g .fuel) (g .e
         }
 
 -- THE PLAIN LOOP'S INVARIANT, with the position room
-pub record PlainLoop (x y d₀ d : List ℕ) (j : ℕ) (h : Hits) (w c : ℕ) : Type 0 where
+pub record PlainLoop (x y d₀ d : List ℕ) (j h w c : ℕ) : Type 0 where
   pub ps : List ℕ
   pub at : PlainAt x y j ps w c
-  pub noted : Noted 0 ps d₀ d h
+  pub noted : Noted 1 ps d₀ d h
 
 -- The remembering scan at its window p: the positions ps are found, w windows and c comparisons are made, and the memory room is mem, which says what R says from the window on
 pub record MemAt (x y mem₀ mem : List ℕ) (p : Place) (top : ℕ) (ps : List ℕ) (w c : ℕ) : Type 0 where
@@ -111,7 +110,7 @@ pub record MemAt (x y mem₀ mem : List ℕ) (p : Place) (top : ℕ) (ps : List 
   pub memory : Memory (length x) mem (p .at) top R
   pub going : Going (remembering x y) (memScan x y R fuel (p .at)) ps w c
 
-pub mem-first : (x y mem : List ℕ) → Sizes x y → (t : List ℕ) → mem ≡ front (replicate (length x) 0) t → MemAt x y mem mem (record { at = 0; slot = 0; stamp = 0 }) 0 [] 0 0
+pub mem-first : (x y mem : List ℕ) → Sizes x y → (t : List ℕ) → mem ≡ front (replicate (length x) 0) t → MemAt x y mem mem (record { at = 0; slot = 0 }) 0 [] 0 0
 unfolding remembering
 mem-first x y mem z t e =
     record {
@@ -180,7 +179,7 @@ mem-next {x} {y} {mem₀} {mem} {mem′} {p} {p′} {top} {top′} {ps} {w} {c} 
         }
 
 -- THE REMEMBERING LOOP'S INVARIANT, with the position room
-pub record MemLoop (x y d₀ d mem₀ mem : List ℕ) (step : ℕ) (p : Place) (top : ℕ) (h : Hits) (w c : ℕ) : Type 0 where
+pub record MemLoop (x y d₀ d mem₀ mem : List ℕ) (step : ℕ) (p : Place) (top h w c : ℕ) : Type 0 where
   pub ps : List ℕ
   pub at : MemAt x y mem₀ mem p top ps w c
   pub noted : Noted step ps d₀ d h

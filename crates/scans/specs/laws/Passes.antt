@@ -13,9 +13,9 @@ use Rattle.scans.specs.declared.memory.Place.{Place}
 use Rattle.scans.specs.Trace.{stopped, Pass, more}
 use Rattle.scans.specs.Plain.{plainPass}
 use Rattle.scans.specs.Remember.{stops, memFrom, memPass}
-use Rattle.scans.specs.inside.Stamp.{recalled, Stands}
+use Rattle.scans.specs.inside.Slots.{recalled, Stands}
 use Rattle.scans.specs.inside.Window.{leftOf, seenOf, passedOf, Ahead, Quiet}
-use Rattle.scans.specs.laws.Stamps.{place-at}
+use Rattle.scans.specs.laws.Slots.{place-at}
 use Rattle.scans.specs.laws.Remember.{step-same, step-diff, step-skip, step-match, step-stop, mem-fuel, mem-left, mem-kept, plain-mem}
 
 -- one comparison more

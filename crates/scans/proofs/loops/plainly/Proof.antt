@@ -9,7 +9,7 @@ use Rattle.basics.specs.Lists.{at}
 use Rattle.scans.specs.Trace.{found}
 use Rattle.scans.specs.inside.Window.{endOf}
 use Rattle.scans.specs.laws.Plain.{plain-end}
-use Rattle.scans.specs.laws.Hits.{noted-none, noted-more, noted-length, noted-all}
+use Rattle.scans.specs.laws.Hits.{noted-none, noted-more, noted-length, noted-le}
 use Rattle.scans.specs.laws.Going.{going-run, going-room}
 use Rattle.scans.specs.laws.Loops.{PlainLoop, plain-first, plain-next}
 use Rattle.scans.proofs.loops.plainly.Statement.{statement}
@@ -23,7 +23,7 @@ abbrev μ-loop : tie.MeasureT-loop
 
 loop-holds : tie.Need-loop-holds Inv-loop μ-loop
 loop-holds c =
-    let a = c .before .before .before .before .args in record { ps = []; at = plain-first (a .x .now) (a .y .now); noted = noted-none 0 (a .room .now) }
+    let a = c .before .before .before .before .args in record { ps = []; at = plain-first (a .x .now) (a .y .now); noted = noted-none 1 (a .room .now) }
 
 add-loop : tie.Need-add-loop Inv-loop μ-loop
 add-loop c = omega arith
@@ -35,7 +35,7 @@ add-visited : tie.Need-add-visited Inv-loop μ-loop
 add-visited c = omega arith
 
 note-requires : tie.Need-note-requires Inv-loop μ-loop
-note-requires c κs = let l = c .before .before .before .loop in omega (arith, noted-all (l .inv .noted))
+note-requires c κs = let l = c .before .before .before .loop in omega (arith, noted-le (l .inv .noted))
 
 by-requires : tie.Need-by-requires Inv-loop μ-loop
 by-requires c κs =
@@ -58,7 +58,7 @@ loop-again c =
     record {
       ps = l .inv .ps ++ found (l .j) e [];
       at = plain-next (s .pre .0) (l .inv .at) (omega arith) (w .plainly .ensures .0) (c .by .ensures .0);
-      noted = noted-more (l .j) e (l .inv .noted) (n .ensures .0) (n .ensures .1);
+      noted = noted-more (l .inv .noted) (l .j) e (n .ensures .0) (n .ensures .1);
     }
 
 same-length : tie.Need-same-length Inv-loop μ-loop

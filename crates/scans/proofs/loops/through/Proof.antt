@@ -9,9 +9,9 @@ use Rattle.basics.specs.Lists.{at}
 use Rattle.scans.specs.Trace.{found}
 use Rattle.scans.specs.inside.Window.{endOf}
 use Rattle.scans.specs.laws.Remember.{mem-end}
-use Rattle.scans.specs.laws.Hits.{noted-none, noted-more, noted-length, noted-all}
+use Rattle.scans.specs.laws.Hits.{noted-none, noted-more, noted-length, noted-le}
 use Rattle.scans.specs.laws.Going.{going-run, going-room}
-use Rattle.scans.specs.laws.Stamps.{place-at}
+use Rattle.scans.specs.laws.Slots.{place-at}
 use Rattle.scans.specs.laws.Loops.{MemLoop, mem-first, mem-next, mem-quiet}
 use Rattle.scans.proofs.loops.through.Statement.{statement}
 use Rattle.scans.proofs.loops.through.Tie as tie
@@ -53,7 +53,7 @@ add-visited : tie.Need-add-visited Inv-loop μ-loop
 add-visited c = omega arith
 
 note-requires : tie.Need-note-requires Inv-loop μ-loop
-note-requires c κs = let l = c .before .before .before .before .before .loop in omega (arith, noted-all (l .inv .noted))
+note-requires c κs = let l = c .before .before .before .before .before .loop in omega (arith, noted-le (l .inv .noted))
 
 keep-requires : tie.Need-keep-requires Inv-loop μ-loop
 keep-requires c κs =
@@ -87,7 +87,7 @@ loop-again c =
     record {
       ps = l .inv .ps ++ found (l .p .at) e [];
       at = mem-next (s .pre .0) (l .inv .at) (omega (arith, c .before .before .before .before .before .before .before .before .before .before .before .before .if1 .taken)) (w .ensures .0) (c .before .by .ensures .0) (k .ensures) (k .kept .0) (c .on .ensures);
-      noted = noted-more (l .p .at) e (l .inv .noted) (n .ensures .0) (n .ensures .1);
+      noted = noted-more (l .inv .noted) (l .p .at) e (n .ensures .0) (n .ensures .1);
     }
 
 same-length : tie.Need-same-length Inv-loop μ-loop

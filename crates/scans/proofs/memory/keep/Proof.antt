@@ -3,7 +3,7 @@
 use native.Mathlib.Omega.{arith}
 use borrow.Author.Needs.{needs}
 use Rattle.basics.specs.Lists.{at}
-use Rattle.scans.specs.laws.Stamps.{place-at, place-again, place-slot, place-stamp, kept-none, kept-at}
+use Rattle.scans.specs.laws.Slots.{place-at, place-again, place-slot, kept-none, kept-at}
 use Rattle.scans.proofs.memory.keep.Statement.{statement}
 use Rattle.scans.proofs.memory.keep.Tie as tie
 
@@ -20,16 +20,10 @@ on-requires : tie.Need-on-requires
 on-requires c κs = search needs
 
 add-mem : tie.Need-add-mem
-add-mem c =
-    let s = c .before .before .before .before in
-    let e = c .before .on in
-    omega (arith, place-stamp (s .args .m) (e .result) (s .pre .0 .0) (place-again (e .ensures)), place-at (e .ensures))
+add-mem c = omega (arith, place-at (c .before .on .ensures))
 
 cast-mem : tie.Need-cast-mem
-cast-mem c =
-    let s = c .before .before .before .before in
-    let e = c .before .on in
-    omega (arith, place-stamp (s .args .m) (e .result) (s .pre .0 .0) (place-again (e .ensures)), place-at (e .ensures))
+cast-mem c = omega (arith, place-at (c .before .on .ensures))
 
 mul-mem : tie.Need-mul-mem
 mul-mem c =

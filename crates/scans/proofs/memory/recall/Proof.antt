@@ -4,7 +4,7 @@ use Prim.Native.Nat.{ℕ, _-_}
 use mathlib.Core.Path.{ap, _∙_}
 use native.Mathlib.Omega.{arith}
 use borrow.Author.Needs.{needs}
-use Rattle.scans.specs.laws.Stamps.{place-slot, place-recalled}
+use Rattle.scans.specs.laws.Slots.{place-slot, place-recalled}
 use Rattle.scans.proofs.memory.recall.Statement.{statement}
 use Rattle.scans.proofs.memory.recall.Tie as tie
 
@@ -24,7 +24,7 @@ returns : tie.Need-returns
 returns c =
     let s = c .before .before .before .before in
     c .less .ensures
-    ∙ ap (λ (n : ℕ). n - s .args .p .stamp) (c .before .wide .ensures)
+    ∙ ap (λ (n : ℕ). n - s .args .p .at) (c .before .wide .ensures)
     ∙ place-recalled (s .args .mem .now) (s .args .m) (s .args .p) (s .pre .1)
 
 pub recall-spec : {M : Type 1} → statement M

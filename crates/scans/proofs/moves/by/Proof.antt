@@ -21,22 +21,26 @@ use Rattle.scans.proofs.moves.by.Tie as tie
 bounded : (x y : List ℕ) (j left r : ℕ) → 1 ≤ length x → r ≡ move x y j (endOf left) → (r ≡ move x y j (endOf left)) × ((1 ≤ r) × (r ≤ length x))
 bounded x y j left r h e = (e, (omega (arith, move-pos x y j (endOf left)), omega (arith, move-le x y j (endOf left) h)))
 
-less-requires : tie.Need-less-requires
-less-requires c κs = search needs
-
 entry-requires : tie.Need-entry-requires
 entry-requires c κs =
     let s = c .before .before .before .before in
-    omega (arith, c .less .ensures, s .pre .0 .sizes .some, shift-reaches (s .args .x .now) (s .pre .1 .0 .begins))
+    omega (arith, s .pre .0 .sizes .some, shift-reaches (s .args .x .now) (s .pre .1 .0 .begins))
 
 returns : tie.Need-returns
 returns c =
-    let s = c .before .before .before .before .before .before in
+    let s = c .before .before .before .before .before in
     let a = s .args in
-    let e : c .before .before .less .result ≡ 0 = omega (arith, c .before .before .less .ensures) in
-    bounded (a .x .now) (a .y .now) (a .j) (a .left) (c .before .entry .result) (s .pre .0 .sizes .some)
-    (shift-entry (a .x .now) (s .pre .1 .0 .begins) 0 (c .before .entry .ensures ∙ ap (at (a .shift .now)) e) (s .pre .0 .sizes .some)
-    ∙ sym (move-matched (a .x .now) (a .y .now) (a .j) (a .left) (c .if1 .taken)))
+    bounded (a .x .now) (a .y .now) (a .j) (a .left) (c .entry .result) (s .pre .0 .sizes .some)
+    (shift-entry (a .x .now) (s .pre .1 .0 .begins) 0 (c .entry .ensures) (s .pre .0 .sizes .some)
+    ∙ sym (move-matched (a .x .now) (a .y .now) (a .j) (a .left) (omega (arith, c .before .if1 .taken))))
+
+sub-i : tie.Need-sub-i
+sub-i c = search needs
+
+entry-requires-2 : tie.Need-entry-requires-2
+entry-requires-2 c κs =
+    let s = c .before .before .before .before in
+    omega (arith, s .pre .0 .sizes .some, shift-reaches (s .args .x .now) (s .pre .1 .0 .begins))
 
 add-index : tie.Need-add-index
 add-index c = search needs
@@ -59,28 +63,29 @@ wide-requires c κs = search needs
 sub-less : tie.Need-sub-less
 sub-less c = search needs
 
-less-requires-2 : tie.Need-less-requires-2
-less-requires-2 c κs = search needs
+less-requires : tie.Need-less-requires
+less-requires c κs = search needs
 
 larger-requires : tie.Need-larger-requires
 larger-requires c κs = search needs
 
 returns-2 : tie.Need-returns-2
 returns-2 c =
-    let s = c .before .before .before .before .before .before .before .before .before .before .before .before in
+    let entry = c .before .before .before .before .before .before in
+    let s = entry .before .before .before .before .before in
     let a = s .args in
     let x = a .x .now in
-    let i = c .before .before .before .before .before .before .before .before .less .result in
-    let e : a .left ≡ suc i = omega (arith, c .before .before .before .before .before .before .before .before .less .ensures, c .before .before .before .before .before .before .if1 .left) in
+    let i = a .left - 1 in
+    let e : a .left ≡ suc i = omega (arith, entry .before .if1 .left) in
     let byte = c .before .before .before .before .index in
-    let p : c .before .before .before .before .before .before .before .entry .result ≡ shiftAt x i = shift-entry x (s .pre .1 .0 .begins) i (c .before .before .before .before .before .before .before .entry .ensures) (omega arith) in
+    let p : entry .entry2 .result ≡ shiftAt x i = shift-entry x (s .pre .1 .0 .begins) i (entry .entry2 .ensures) (omega arith) in
     let o : c .before .before .wide .result ≡ occurrenceAt x (at (a .y .now) (a .j + i)) =
     c .before .before .wide .ensures
     ∙ ap (λ (l : List ℕ). at l (byte .result)) (s .pre .1 .0 .byte)
     ∙ at-occurrenceTable x (byte .result) (byte .ensures .1)
     ∙ ap (occurrenceAt x) (byte .ensures .0) in
-    let q : c .before .less2 .result ≡ occurrenceAt x (at (a .y .now) (a .j + i)) - (length x - a .left) =
-    c .before .less2 .ensures ∙ ap (λ (n : ℕ). n - (length x - a .left)) o in
+    let q : c .before .less .result ≡ occurrenceAt x (at (a .y .now) (a .j + i)) - (length x - a .left) =
+    c .before .less .ensures ∙ ap (λ (n : ℕ). n - (length x - a .left)) o in
     bounded x (a .y .now) (a .j) (a .left) (c .larger .result) (s .pre .0 .sizes .some)
     (c .larger .ensures ∙ (λ k. max (p k) (q k)) ∙ sym (move-stopped x (a .y .now) (a .j) (a .left) i e))
 
@@ -88,9 +93,10 @@ pub by-spec : {M : Type 1} → statement M
 by-spec =
     tie.close
     (tie.spec
-    less-requires
     entry-requires
     returns
+    sub-i
+    entry-requires-2
     add-index
     shared-slice-read-index
     index-requires
@@ -98,6 +104,6 @@ by-spec =
     element-copy-out-wide
     wide-requires
     sub-less
-    less-requires-2
+    less-requires
     larger-requires
     returns-2)

@@ -9,9 +9,9 @@ use lib.ListN.{length}
 use Rattle.basics.specs.Lists.{at}
 use Rattle.tables.specs.laws.Suffix.{suffix-reaches, suffix-entry}
 use Rattle.scans.specs.Remember.{memFrom}
-use Rattle.scans.specs.inside.Stamp.{recalled}
+use Rattle.scans.specs.inside.Slots.{recalled}
 use Rattle.scans.specs.inside.Window.{passedOf}
-use Rattle.scans.specs.laws.Stamps.{place-at, place-again}
+use Rattle.scans.specs.laws.Slots.{place-at, place-again}
 use Rattle.scans.specs.laws.Passes.{rule-equal, rule-unequal, rule-skips, rule-matches, rule-stops, pass-none}
 use Rattle.scans.proofs.windows.below.Statement.{statement}
 use Rattle.scans.proofs.windows.below.Tie as tie
