@@ -7,3 +7,5 @@ pub mod Search
 pub mod Lists
 -- rooms after a call, and while a loop fills them
 pub mod Rooms
+-- lists laid into a room, one after another
+pub mod Inlaid

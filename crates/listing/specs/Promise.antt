@@ -5,6 +5,10 @@ use Prim.Native.Nat.{ℕ}
 use Rattle.lines.specs.Promise.{Laid, laid-once}
 use Rattle.listing.specs.Listing.{listing}
 
+-- no listing has more bytes
+abbrev pub longest : ℕ
+longest = 200000
+
 -- `put`, of the log s and the buffer d: the listing from the front on, as far as the buffer reaches. The answer is r, and the buffer ends as d′.
 abbrev pub Written : List ℕ → List ℕ → ℕ → List ℕ → Type 0
 Written s d r d′ = Laid d 0 (listing s) r d′

@@ -18,7 +18,7 @@ ghost use Rattle.pairs.specs.Check.{pairs, unprobed};
 ghost use Rattle.pairs.specs.Promise.{step};
 ghost use Rattle.listing.specs.Listing.{draws, headLine, pairLine, pairLines, unprobedLine, totalLine, refusedLine, ownerText, ownersText, acceptedText};
 ghost use Rattle.listing.specs.Inside.{pairIn, ownedFrom, Holds};
-ghost use Rattle.listing.specs.Promise.{Written};
+ghost use Rattle.listing.specs.Promise.{longest, Written};
 use basics::wide;
 use drawlog::Log;
 
@@ -26,6 +26,9 @@ use drawlog::Log;
 pub const DRAWS: u32 = 32;
 
 pub const PROBE: u32 = Log::DRAW * DRAWS;
+
+// No listing has more bytes: a buffer of this many holds each.
+pub const LONGEST: usize = 200000;
 
 // The numbers of a pair in the check's result.
 const PAIR: usize = pairs::PAIR;
@@ -47,7 +50,8 @@ struct Done {
 
 // Puts the listing of a log into the buffer, and answers the length of the whole.
 pub fn put(log: &[u8], out: &mut [u8]) -> usize
-    ensures { λ r. ⌜ Written (now (log .entry)) (now (out .entry)) r (now (out .exit)) ⌝ }
+    ensures text { λ r. ⌜ Written (now (log .entry)) (now (out .entry)) r (now (out .exit)) ⌝ }
+    ensures short { λ r. ⌜ r ≤ longest ⌝ }
 {
     let mut suffix = [0u32; WORK];
     let mut shift = [0u32; WORK];

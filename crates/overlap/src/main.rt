@@ -8,14 +8,12 @@ use libc::STDOUT_FILENO;
 // One byte more than a log may have, so that a longer input is refused 11.
 const INPUT: usize = Log::LONGEST + 1;
 
-// More than the longest listing: 64 unprobed lines and 4,032 pair lines, of at most 44 bytes each, the head and the end.
-const TEXT: usize = 200000;
+const TEXT: usize = listing::LONGEST;
 
 fn main() {
     let mut input = [0u8; INPUT];
     let n = io::read_full(STDIN_FILENO, &mut input);
     let mut text = [0u8; TEXT];
     let whole = listing::put(&input[..n], &mut text);
-    let m = basics::smaller(whole, TEXT);
-    io::write_all(STDOUT_FILENO, &text[..m]);
+    io::write_all(STDOUT_FILENO, &text[..whole]);
 }

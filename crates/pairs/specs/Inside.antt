@@ -1,15 +1,10 @@
 -- Words of the private functions' contracts. Assumes nothing.
 use mathlib.Core.Path.{_≡_}
-use mathlib.Core.List.{List, _++_}
+use mathlib.Core.List.{List}
 use Prim.Native.Nat.{ℕ, _+_, _*_, _≤_}
-use lib.ListN.{length, take, drop}
-use Rattle.scans.specs.laws.Search.{Beyond}
+use lib.ListN.{length}
+use Rattle.basics.specs.Rooms.{Beyond, Inlaid}
 use Rattle.pairs.specs.Check.{Pair, numbers}
-
--- the list w laid into the room d from place at on
-pub record Laid (d : List ℕ) (at : ℕ) (w d′ : List ℕ) : Type 0 where
-  pub room : at + length w ≤ length d
-  pub is : d′ ≡ take at d ++ (w ++ drop (at + length w) d)
 
 -- the three work rooms f, h, e after searches for a probe of m bytes
 pub record Worked (m : ℕ) (f h e f′ h′ e′ : List ℕ) : Type 0 where
@@ -28,4 +23,4 @@ pub record Ready (m : ℕ) (f h e : List ℕ) : Type 0 where
 -- the pairs qs found, after k others: they are counted in k′, and laid into the result room d behind these
 pub record Found (qs : List Pair) (k : ℕ) (d : List ℕ) (k′ : ℕ) (d′ : List ℕ) : Type 0 where
   pub number : k′ ≡ k + length qs
-  pub laid : Laid d (4 * k) (numbers qs) d′
+  pub laid : Inlaid d (4 * k) (numbers qs) d′

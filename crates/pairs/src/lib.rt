@@ -19,7 +19,8 @@ ghost use Rattle.drawlog.specs.Promise.{testedOf};
 ghost use Rattle.pairs.specs.Check.{probeSize, probed, pairWith, pairsWith, pairsOf, pairs, unprobed};
 ghost use Rattle.pairs.specs.Refusal.{longest, needed, ownCause, causeOf};
 ghost use Rattle.pairs.specs.Promise.{step, Checking};
-ghost use Rattle.pairs.specs.Inside.{Laid, Worked, Ready, Found};
+ghost use Rattle.basics.specs.Rooms.{Inlaid};
+ghost use Rattle.pairs.specs.Inside.{Worked, Ready, Found};
 use basics::wide;
 use drawlog::Cause;
 use drawlog::Log;
@@ -290,7 +291,7 @@ fn pair(
 // Puts the numbers of a pair behind those of `pairs` others.
 fn put(result: &mut [u32], pairs: u32, owner: u32, other: u32, first: u32, number: u32)
     requires { ⌜ 4 * (pairs + 1) ≤ length (now result) ⌝ }
-    ensures { λ _. ⌜ Laid (now (result .entry)) (4 * pairs) (owner ∷ other ∷ first ∷ number ∷ []) (now (result .exit)) ⌝ }
+    ensures { λ _. ⌜ Inlaid (now (result .entry)) (4 * pairs) (owner ∷ other ∷ first ∷ number ∷ []) (now (result .exit)) ⌝ }
 {
     let at = PAIR * wide(pairs);
     result[at] = owner;

@@ -4,10 +4,10 @@ use mathlib.Core.List.{List, [], _∷_, _++_, append-assoc}
 use Prim.Native.Nat.{ℕ, zero, suc, _+_, _-_, _≤_, _<_, min}
 use native.Mathlib.Numerals.{add-one}
 use native.Mathlib.Omega.{arith}
-use lib.ListN.{length, getD, drop, set, replicate, length-append, length-drop, List·getD-append}
+use lib.ListN.{length, getD, drop, set, replicate, length-replicate, length-append, length-drop, List·getD-append}
 use lib.Seq.{drop-cons, drop-at, drop-drop, set-at, set-append-left}
 use Rattle.basics.specs.Lists.{at, table}
-use Rattle.basics.specs.Rooms.{front, roomAfter, Begins}
+use Rattle.basics.specs.Rooms.{front, roomAfter, Begins, Beyond}
 use Rattle.basics.specs.laws.Lists.{length-table, at-table, table-ext, set-table}
 
 -- a refusal leaves the room
@@ -44,6 +44,23 @@ front-again t d {d₁} p = p ∙ sym (front-then t t d d₁ p refl (omega arith)
 -- a room that is long enough is cleared as far as was asked
 pub cleared : (n : ℕ) (d : List ℕ) {d′ : List ℕ} → n ≤ length d → d′ ≡ front (replicate (min n (length d)) 0) d → d′ ≡ front (replicate n 0) d
 cleared n d h e = let q : min n (length d) ≡ n = omega arith in rw q at e
+
+-- UNCHANGED FROM A PLACE ON
+pub beyond-none : {n : ℕ} {d : List ℕ} → Beyond n d d
+beyond-none = record { size = refl; rest = refl }
+
+pub beyond-then : {n : ℕ} {d d₁ d₂ : List ℕ} → Beyond n d d₁ → Beyond n d₁ d₂ → Beyond n d d₂
+beyond-then u v = record { size = v .size ∙ u .size; rest = v .rest ∙ u .rest }
+
+pub beyond-front : (n : ℕ) (t d : List ℕ) {d′ : List ℕ} → d′ ≡ front t d → length t ≡ n → n ≤ length d → Beyond n d d′
+beyond-front n t d e q l =
+    record { size = ap length e ∙ length-front t d (omega arith); rest = ap (drop n) e ∙ drop-front t d n (omega arith) }
+
+-- the first n entries are cleared at last
+pub beyond-cleared : {n : ℕ} {d d₁ d₂ : List ℕ} → n ≤ length d → Beyond n d d₁ → (z : ℕ) → z ≡ n → d₂ ≡ front (replicate (min z (length d₁)) 0) d₁ → d₂ ≡ front (replicate n 0) d
+beyond-cleared {n} {d} {d₁} l u z q e =
+    let c = cleared n d₁ (omega (arith, u .size)) (rw q at e) in
+    c ∙ rw (length-replicate {A = ℕ} n 0) (ap (λ (r : List ℕ). replicate n 0 ++ r) (u .rest))
 
 -- A LOOP THAT FILLS: d is the room d₀ with the first i entries of f in front
 pub record Filled (f : ℕ → ℕ) (d₀ : List ℕ) (i : ℕ) (d : List ℕ) : Type 0 where

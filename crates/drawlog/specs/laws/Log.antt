@@ -6,7 +6,7 @@ use Prim.Native.Nat.{ℕ, _+_, _*_, _≤_, _<_}
 use native.Mathlib.Omega.{arith}
 use lib.ListN.{length, drop, length-drop}
 use lib.Seq.{ext-getD, getD-drop}
-use Rattle.basics.specs.Lists.{at}
+use Rattle.basics.specs.Lists.{at, Bytes}
 use Rattle.basics.specs.laws.Tests.{is-false}
 use Rattle.basics.specs.laws.Lists.{same-refl, same-true}
 use Rattle.drawlog.specs.declared.layout.Log.{Log}
@@ -52,3 +52,12 @@ module _ {s : List ℕ} {t : Log} {n : ℕ} (r : Reaches s t n) (k p : ℕ) (e :
   pub length-read : number s (p + 8) ≡ lengthAt s k
   unfolding lengthAt
   length-read = rw stands
+
+-- a number of four bytes has 32 bits
+number-below : (s : List ℕ) → Bytes s → (o : ℕ) → number s o < 4294967296
+unfolding number
+number-below s b o = omega (arith, b o, b (o + 1), b (o + 2), b (o + 3))
+
+pub id-below : (s : List ℕ) → Bytes s → (k : ℕ) → idAt s k < 4294967296
+unfolding idAt
+id-below s b k = number-below s b (place s k)

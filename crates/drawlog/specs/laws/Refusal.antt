@@ -1,13 +1,13 @@
 -- Laws of the causes: how each is tested, and what a log without any of them is. Assumes nothing.
 use mathlib.Core.Path.{_≡_, refl, sym, ap, _∙_}
 use mathlib.Core.Logic.{_⊎_, inl, inr, ⊎-elim}
-use mathlib.Core.Bool.{Bool, true, false, cond, not}
+use mathlib.Core.Bool.{Bool, true, false, cond, not, _&&_}
 use mathlib.Core.List.{List}
-use Prim.Native.Nat.{ℕ, zero, suc, _+_, _-_, _*_, _%_, _≤_, _<_}
+use Prim.Native.Nat.{ℕ, zero, suc, _+_, _-_, _*_, _%_, _≤_, _<_, zero-le}
 use native.Mathlib.Numerals.{unary-clauses}
 use native.Mathlib.Omega.{arith}
 use borrow.Author.Tests.{eq-eqb, ne-eqb, lt-ltb, le-ltb, eqb-true, eqb-false, ltb-false, leb-true, le-leb, not-true, not-false}
-use lib.Dec.{ltb, eqb, lit<}
+use lib.Dec.{leb, ltb, eqb, lit<}
 use lib.ListN.{length}
 use Rattle.basics.specs.laws.Tests.{and-true-both, equal-or-not, le-or-lt}
 use Rattle.basics.specs.laws.Search.{least-is, least-before, least-passes}
@@ -179,3 +179,42 @@ is-accepted s f each ends =
     (λ k u v. ap not (eq-eqb (entryCause s k) 0 (entered-none s k (each k v))))
     (inl (omega arith)) in
     record { frame = f; each = each; ends = ends; cause = cause-none s (framed-none s f) (omega arith) ends }
+
+-- HOW LARGE a cause's number and its entry can be
+named : (test : Bool) (n rest : ℕ) → n ≤ 17 → rest ≤ 17 → cond test n rest ≤ 17
+named true n rest u v = u
+named false n rest u v = v
+
+log-named : (s : List ℕ) → logCause s ≤ 17
+unfolding logCause
+log-named s =
+    named (ltb (length s) trailerSize) 10 _ (omega arith)
+    (named (ltb longest (length s)) 11 _ (omega arith)
+    (named (not (marked s)) 12 _ (omega arith)
+    (named (not (leb 1 (count s) && leb (count s) most)) 13 _ (omega arith)
+    (named (not (eqb (directory s + entrySize * count s + trailerSize) (length s))) 14 0 (omega arith) zero-le))))
+
+entry-named : (s : List ℕ) (k : ℕ) → entryCause s k ≤ 17
+unfolding entryCause
+entry-named s k =
+    named (not (rises s k)) 15 _ (omega arith)
+    (named (not (eqb (startAt s k) (due s k))) 16 _ (omega arith)
+    (named (not (eqb (lengthAt s k % drawSize) 0)) 17 0 (omega arith) zero-le))
+
+pub cause-small : (s : List ℕ) → (causeOf s .refusal ≤ 17) × (causeOf s .entry ≤ most)
+cause-small s =
+    ⊎-elim (λ (a : logCause s ≡ 0). framed-log a) (λ (a : logCause s ≡ 0 → ⊥). told (cause-log s a) (log-named s) zero-le) (equal-or-not (logCause s) 0)
+  where
+    told : {x : Cause} → causeOf s ≡ x → x .refusal ≤ 17 → x .entry ≤ most → (causeOf s .refusal ≤ 17) × (causeOf s .entry ≤ most)
+    told e u v = rw e (u, v)
+
+    framed-log : logCause s ≡ 0 → (causeOf s .refusal ≤ 17) × (causeOf s .entry ≤ most)
+    framed-log a =
+        let few : count s ≤ most = framed s a .few in
+        ⊎-elim
+        (λ (b : count s ≤ firstBad s). ⊎-elim
+        (λ (c : due s (count s) ≡ directory s). told (cause-none s a b c) zero-le zero-le)
+        (λ (c : due s (count s) ≡ directory s → ⊥). told (cause-end s a b c) (omega arith) few)
+        (equal-or-not (due s (count s)) (directory s)))
+        (λ (b : firstBad s < count s). told (cause-entry s a b) (entry-named s (firstBad s)) (omega arith))
+        (le-or-lt (count s) (firstBad s))

@@ -73,6 +73,10 @@ pub after-le : (p : ℕ) (w : List ℕ) → after p w ≤ lastPlace
 unfolding after
 after-le p w = omega arith
 
+pub after-short : (p : ℕ) (w : List ℕ) → after p w ≤ p + length w
+unfolding after
+after-short p w = omega arith
+
 -- it stops at the last place
 pub after-last : (p : ℕ) (w : List ℕ) → lastPlace ≤ p + length w → after p w ≡ lastPlace
 unfolding after

@@ -1,8 +1,10 @@
 -- `put` meets its contract: the rooms that it lends to the check are large enough for every log, so only the log test refuses.
 -- Assumes nothing.
 use mathlib.Core.Path.{sym, _∙_}
+use native.Mathlib.Omega.{arith}
 use borrow.Author.Needs.{needs}
 use Rattle.listing.specs.laws.Text.{laid-as, listing-accepted}
+use Rattle.listing.specs.laws.Longest.{written-short}
 use Rattle.listing.specs.laws.Answer.{refusal-is, refused-text, count-told, held-told, missed-told}
 use Rattle.listing.proofs.put.Statement.{statement}
 use Rattle.listing.proofs.put.Tie as tie
@@ -33,7 +35,9 @@ returns c =
     let call = c .before .before in
     let if1 = call .before .before in
     let check = if1 .before .before .before .before .before in
-    laid-as (refused-text _ _ _ _ _ (check .check .ensures) (search needs) (search needs) (search needs) (search needs) (if1 .if1 .taken)) (call .refused-line .ensures)
+    let text = laid-as (refused-text _ _ _ _ _ (check .check .ensures) (search needs) (search needs) (search needs) (search needs) (if1 .if1 .taken)) (call .refused-line .ensures) in
+    let log = check .before .before .before .before .before .before in
+    (text, written-short (log .before .args .log .now) (λ i. omega (arith, log .shared-slice-known .given i)) text)
 
 test-requires : tie.Need-test-requires
 test-requires c κs = search needs
@@ -64,7 +68,9 @@ returns-2 c =
     let call = c .before .before in
     let if1 = call .before .before .before .before in
     let check = if1 .before .before .before .before .before in
-    laid-as (listing-accepted _ (sym (refusal-is _ _ _ _ _ (check .check .ensures) (search needs) (search needs) (search needs) (search needs)) ∙ if1 .if1 .left)) (call .accepted .ensures)
+    let text = laid-as (listing-accepted _ (sym (refusal-is _ _ _ _ _ (check .check .ensures) (search needs) (search needs) (search needs) (search needs)) ∙ if1 .if1 .left)) (call .accepted .ensures) in
+    let log = check .before .before .before .before .before .before in
+    (text, written-short (log .before .args .log .now) (λ i. omega (arith, log .shared-slice-known .given i)) text)
 
 pub put-spec : {M : Type 1} → statement M
 put-spec =

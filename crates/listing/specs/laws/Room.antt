@@ -1,18 +1,17 @@
 -- The pairs that a room holds, and those of one owner among them. Assumes nothing.
-use mathlib.Core.Path.{_≡_, refl, sym, ap, _∙_}
+use mathlib.Core.Path.{_≡_, refl, ap, _∙_}
 use mathlib.Core.List.{List, [], _∷_, _++_, append-assoc}
 use Prim.Native.Nat.{ℕ, zero, suc, _+_, _-_, _*_, _≤_, _<_}
 use native.Mathlib.Nat.{add-zero}
 use native.Mathlib.Omega.{arith}
 use borrow.Author.Tests.{eq-eqb, ne-eqb}
-use lib.ListN.{length, drop, length-append}
-use lib.Seq.{getD-drop, drop-at}
+use lib.ListN.{length, length-append}
 use Rattle.basics.specs.Lists.{at}
 use Rattle.basics.specs.Rooms.{Begins}
 use Rattle.drawlog.specs.Log.{idAt}
 use Rattle.drawlog.specs.laws.Promise.{holding}
 use Rattle.pairs.specs.Check.{Pair, pairsOf, pairs, numbers}
-use Rattle.pairs.specs.laws.Check.{numbers-append, length-numbers}
+use Rattle.pairs.specs.laws.Check.{number-at, length-numbers}
 use Rattle.pairs.specs.laws.Owners.{Each, Bears, Above, of-bears, later, later-above, pairs-split}
 use Rattle.pairs.specs.Promise.{step}
 use Rattle.listing.specs.Listing.{draws}
@@ -20,17 +19,10 @@ use Rattle.listing.specs.Inside.{pairIn, ownedFrom, Holds}
 
 -- A PAIR behind others
 module _ (ps : List Pair) (q : Pair) (qs : List Pair) where
-  number-at : (t : ℕ) → at (numbers (ps ++ (q ∷ qs))) (4 * length ps + t) ≡ at (q .owner ∷ q .other ∷ q .first ∷ q .number ∷ numbers qs) t
-  unfolding numbers
-  number-at t =
-      sym (getD-drop (4 * length ps) (numbers (ps ++ (q ∷ qs))) t 0)
-      ∙ ap (λ (l : List ℕ). at l t)
-      (ap (drop (4 * length ps)) (numbers-append ps (q ∷ qs)) ∙ drop-at (numbers ps) (numbers (q ∷ qs)) (4 * length ps) (length-numbers ps))
-
   module _ (d : List ℕ) (b : Begins (numbers (ps ++ (q ∷ qs))) d) where
-    number-in : (t : ℕ) → t < 4 → at d (4 * length ps + t) ≡ at (q .owner ∷ q .other ∷ q .first ∷ q .number ∷ numbers qs) t
+    number-in : (t : ℕ) → t < 4 → at d (4 * length ps + t) ≡ at (q .owner ∷ q .other ∷ q .first ∷ q .number ∷ []) t
     number-in t h =
-        b .entry (4 * length ps + t) (omega (arith, length-numbers (ps ++ (q ∷ qs)), length-append ps (q ∷ qs))) ∙ number-at t
+        b .entry (4 * length ps + t) (omega (arith, length-numbers (ps ++ (q ∷ qs)), length-append ps (q ∷ qs))) ∙ number-at ps q qs t h
 
     pub owner-in : at d (4 * length ps) ≡ q .owner
     owner-in = rw add-zero at (number-in 0 (omega arith))

@@ -1,8 +1,8 @@
--- `main` is safe and ends: no more of the text is written than the buffer holds.
+-- `main` is safe and ends: the buffer holds the whole listing, whatever was read.
 -- Assumes nothing.
 use mathlib.Core.Path.{sym}
-use borrow.Author.Needs.{needs}
 use native.Mathlib.Omega.{arith}
+use borrow.Author.Needs.{needs}
 use lib.Seq.{length-take-le}
 use Rattle.overlap.proofs.main.Statement.{statement}
 use Rattle.overlap.proofs.main.Tie as tie
@@ -25,15 +25,12 @@ slice-aggregate-put-2 c = search needs
 put-requires : tie.Need-put-requires
 put-requires c κs = search needs
 
-smaller-requires : tie.Need-smaller-requires
-smaller-requires c κs = search needs
-
 array-share-prefix-text : tie.Need-array-share-prefix-text
 array-share-prefix-text c = search needs
 
 slice-aggregate-write-all : tie.Need-slice-aggregate-write-all
 slice-aggregate-write-all c =
-    sym (length-take-le (c .before .smaller .result) (c .before .before .before .put .last .1 .0) (omega (arith, c .before .smaller .ensures, c .before .before .text2 .given)))
+    sym (length-take-le (c .before .before .put .result) (c .before .before .put .last .1 .0) (omega (arith, c .before .before .put .ensures .1, c .before .text2 .given)))
 
 write-all-requires : tie.Need-write-all-requires
 write-all-requires c κs = search needs
@@ -51,7 +48,6 @@ main-spec =
     slice-aggregate-put
     slice-aggregate-put-2
     put-requires
-    smaller-requires
     array-share-prefix-text
     slice-aggregate-write-all
     write-all-requires

@@ -3,7 +3,7 @@
 use borrow.Author.Needs.{needs}
 use native.Mathlib.Omega.{arith}
 use lib.ListN.{length-set}
-use Rattle.pairs.specs.laws.Laid.{laid-four}
+use Rattle.basics.specs.laws.Inlaid.{inlaid-four}
 use Rattle.pairs.proofs.put.Statement.{statement}
 use Rattle.pairs.proofs.put.Tie as tie
 
@@ -50,7 +50,7 @@ same-length : tie.Need-same-length
 same-length c = search needs
 
 returns : tie.Need-returns
-returns c = rw (c .wide .ensures) (laid-four _ _ _ _ _ _ (omega arith))
+returns c = rw (c .wide .ensures) (inlaid-four _ _ _ _ _ _ (omega arith))
 
 pub put-spec : {M : Type 1} → statement M
 put-spec =

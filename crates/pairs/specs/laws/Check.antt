@@ -9,7 +9,9 @@ use native.Mathlib.Numerals.{add-one}
 use native.Mathlib.Omega.{arith}
 use borrow.Author.Tests.{eq-eqb, ne-eqb, le-leb, lt-leb}
 use lib.Dec.{eqb}
-use lib.ListN.{length, take, drop, length-append, length-take, length-drop}
+use lib.ListN.{length, take, drop, length-append, length-take, length-drop, List·getD-append}
+use lib.Seq.{getD-drop, drop-at}
+use Rattle.basics.specs.Lists.{at}
 use Rattle.basics.specs.laws.Tests.{bool-case, equal-or-not, le-or-lt}
 use Rattle.scans.specs.Occurrences.{occurrences, multiples, firstOf}
 use Rattle.drawlog.specs.declared.Listed.{Listed}
@@ -32,6 +34,16 @@ pub length-numbers : (qs : List Pair) → length (numbers qs) ≡ 4 * length qs
 unfolding numbers
 length-numbers [] = refl
 length-numbers (q ∷ qs) = omega (arith, length-numbers qs)
+
+-- the four numbers of a pair behind others
+pub number-at : (ps : List Pair) (q : Pair) (qs : List Pair) (t : ℕ) → t < 4
+    → at (numbers (ps ++ (q ∷ qs))) (4 * length ps + t) ≡ at (q .owner ∷ q .other ∷ q .first ∷ q .number ∷ []) t
+unfolding numbers
+number-at ps q qs t h =
+    sym (getD-drop (4 * length ps) (numbers (ps ++ (q ∷ qs))) t 0)
+    ∙ ap (λ (l : List ℕ). at l t)
+    (ap (drop (4 * length ps)) (numbers-append ps (q ∷ qs)) ∙ drop-at (numbers ps) (numbers (q ∷ qs)) (4 * length ps) (length-numbers ps))
+    ∙ List·getD-append (q .owner ∷ q .other ∷ q .first ∷ q .number ∷ []) (numbers qs) 0 t h
 
 -- THE BLOCKS of a log with an entry k
 module _ (s : List ℕ) (k : ℕ) (h : k < testedOf s .count) where
@@ -199,6 +211,11 @@ module _ (d p : ℕ) (s : List ℕ) where
   pairs-few zero h = zero-le
   pairs-few (suc a) h =
       rw (length-append (pairs d p s a) (pairsOf d p s a)) (omega (arith, pairs-few a (omega arith), of-few d p s a h))
+
+  pub pairs-most : count s ≤ 64 → length (pairs d p s (count s)) ≤ 4032
+  pairs-most h =
+      let most : count s * (count s - 1) ≤ 64 * 63 = mul-le-mul {n₁ = count s} {m₁ = count s - 1} {n₂ = 64} {m₂ = 63} (omega arith) (omega arith) in
+      omega (arith, pairs-few (count s) (omega arith))
 
   -- so there is room for the pairs of one owner more
   pub pairs-room : (a c : ℕ) → a < c → c ≡ count s → c ≤ 64 → (4 * (length (pairs d p s a) + (c - 1)) ≤ needed c) × (length (pairs d p s a) ≤ 4096)

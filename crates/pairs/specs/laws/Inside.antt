@@ -1,36 +1,24 @@
 -- Laws of what the private functions hand on: the work rooms, and the pairs found so far. Assumes nothing.
-use mathlib.Core.Path.{_≡_, refl, sym, ap, _∙_}
+use mathlib.Core.Path.{_≡_, refl, sym, _∙_}
 use mathlib.Core.List.{List, [], _∷_, _++_}
 use Prim.Native.Nat.{ℕ, _+_, _*_, _≤_, _<_, min}
 use native.Mathlib.Nat.{add-zero}
 use native.Mathlib.Omega.{arith}
-use lib.ListN.{length, take, drop, replicate, length-append, length-replicate}
-use Rattle.basics.specs.Rooms.{front}
-use Rattle.basics.specs.laws.Rooms.{cleared}
+use lib.ListN.{length, take, drop, length-append}
+use Rattle.basics.specs.Rooms.{Inlaid}
+use Rattle.basics.specs.laws.Rooms.{beyond-none, beyond-then}
+use Rattle.basics.specs.laws.Inlaid.{inlaid-length, inlaid-none, inlaid-then}
 use Rattle.scans.specs.declared.Tally.{Tally}
 use Rattle.scans.specs.Occurrences.{occurrences, multiples, firstOf}
 use Rattle.scans.specs.Promise.{Aligning}
 use Rattle.scans.specs.laws.Refusal.{Accepted}
-use Rattle.scans.specs.laws.Search.{Beyond, counted}
+use Rattle.scans.specs.laws.Search.{counted}
 use Rattle.drawlog.specs.Promise.{testedOf, listedOf}
 use Rattle.pairs.specs.Check.{block, Pair, numbers}
-use Rattle.pairs.specs.Inside.{Laid, Worked, Ready, Found}
-use Rattle.pairs.specs.laws.Laid.{laid-length, laid-none, laid-then}
+use Rattle.pairs.specs.Inside.{Worked, Ready, Found}
 use Rattle.pairs.specs.laws.Check.{numbers-append, length-numbers, block-is, block-short}
 
 -- WORK ROOMS
-beyond-none : {n : ℕ} {d : List ℕ} → Beyond n d d
-beyond-none = record { size = refl; rest = refl }
-
-beyond-then : {n : ℕ} {d d₁ d₂ : List ℕ} → Beyond n d d₁ → Beyond n d₁ d₂ → Beyond n d d₂
-beyond-then u v = record { size = v .size ∙ u .size; rest = v .rest ∙ u .rest }
-
--- a room whose first n entries are cleared after all searches
-pub beyond-cleared : {n : ℕ} {d d₁ d₂ : List ℕ} → n ≤ length d → Beyond n d d₁ → (z : ℕ) → z ≡ n → d₂ ≡ front (replicate (min z (length d₁)) 0) d₁ → d₂ ≡ front (replicate n 0) d
-beyond-cleared {n} {d} {d₁} l u z q e =
-    let c = cleared n d₁ (omega (arith, u .size)) (rw q at e) in
-    c ∙ rw (length-replicate {A = ℕ} n 0) (ap (λ (r : List ℕ). replicate n 0 ++ r) (u .rest))
-
 module _ {m : ℕ} {f h e : List ℕ} where
   pub worked-none : Worked m f h e f h e
   worked-none = record { suffix = beyond-none; shift = beyond-none; memory = beyond-none }
@@ -57,13 +45,13 @@ module _ {m : ℕ} {f h e : List ℕ} where
 
 -- THE PAIRS FOUND
 pub found-length : {qs : List Pair} {k k′ : ℕ} {d d′ : List ℕ} → Found qs k d k′ d′ → length d′ ≡ length d
-found-length g = laid-length (g .laid)
+found-length g = inlaid-length (g .laid)
 
 pub found-none : {qs : List Pair} {k : ℕ} {d : List ℕ} → qs ≡ [] → 4 * k ≤ length d → Found qs k d k d
 unfolding numbers
-found-none {qs} {k} {d} e l = rw e (record { number = sym (add-zero k); laid = laid-none d (4 * k) l })
+found-none {qs} {k} {d} e l = rw e (record { number = sym (add-zero k); laid = inlaid-none d (4 * k) l })
 
-pub found-one : {qs : List Pair} {q : Pair} {k u v w x : ℕ} {d d′ : List ℕ} → qs ≡ q ∷ [] → Laid d (4 * k) (u ∷ v ∷ w ∷ x ∷ []) d′
+pub found-one : {qs : List Pair} {q : Pair} {k u v w x : ℕ} {d d′ : List ℕ} → qs ≡ q ∷ [] → Inlaid d (4 * k) (u ∷ v ∷ w ∷ x ∷ []) d′
     → u ≡ q .owner → v ≡ q .other → w ≡ q .first → x ≡ q .number → Found qs k d (k + 1) d′
 unfolding numbers
 found-one e l eu ev ew ex = rw e (record { number = refl; laid = rw (eu, ev, ew, ex) at l })
@@ -73,7 +61,7 @@ found-then {qs} {rs} {ts} {k} {k₁} {k₂} {d} {d₁} {d₂} e u v =
     rw (← e)
     (record {
       number = rw (length-append qs rs) (omega (arith, u .number, v .number));
-      laid = rw (numbers-append qs rs) (laid-then (u .laid) (omega (arith, u .number, length-numbers qs)) (v .laid));
+      laid = rw (numbers-append qs rs) (inlaid-then (u .laid) (omega (arith, u .number, length-numbers qs)) (v .laid));
     })
 
 -- they lie within the result room

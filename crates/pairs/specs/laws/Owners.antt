@@ -18,15 +18,15 @@ Each P [] = Unit {0}
 Each P (q ∷ qs) = P q × Each P qs
 
 module _ (P : Pair → Type 0) where
-  each-append : (qs rs : List Pair) → Each P qs → Each P rs → Each P (qs ++ rs)
+  pub each-append : (qs rs : List Pair) → Each P qs → Each P rs → Each P (qs ++ rs)
   each-append [] rs u v = v
   each-append (q ∷ qs) rs u v = (u .0, each-append qs rs (u .1) v)
 
-  each-else : (t : Bool) (qs : List Pair) → Each P qs → Each P (cond t [] qs)
+  pub each-else : (t : Bool) (qs : List Pair) → Each P qs → Each P (cond t [] qs)
   each-else true qs u = tt
   each-else false qs u = u
 
-  each-then : (t : Bool) (qs : List Pair) → Each P qs → Each P (cond t qs [])
+  pub each-then : (t : Bool) (qs : List Pair) → Each P qs → Each P (cond t qs [])
   each-then true qs u = u
   each-then false qs u = tt
 

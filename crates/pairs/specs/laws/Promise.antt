@@ -14,9 +14,9 @@ use Rattle.pairs.specs.Check.{probeSize, Pair, pairs, unprobed, numbers}
 use Rattle.pairs.specs.Refusal.{causeOf}
 use Rattle.pairs.specs.Promise.{step, checkedOf, cause, Checking}
 use Rattle.pairs.specs.Inside.{Worked, Ready, Found}
-use Rattle.pairs.specs.laws.Laid.{laid-front}
+use Rattle.basics.specs.laws.Inlaid.{inlaid-front}
 use Rattle.pairs.specs.laws.Check.{tested-count}
-use Rattle.pairs.specs.laws.Inside.{beyond-cleared}
+use Rattle.basics.specs.laws.Rooms.{beyond-cleared}
 use Rattle.pairs.specs.laws.Refusal.{Allowed, cause-none}
 
 -- THE ANSWER, number by number
@@ -100,5 +100,5 @@ done-is {s} {p} {c} {n} {u} {z} {f} {h} {e} {d} {f₁} {h₁} {e₁} {f₂} {h�
       suffix = beyond-cleared (given .ready .suffix) (worked .suffix) z ez cf;
       shift = beyond-cleared (given .ready .shift) (worked .shift) z ez ch;
       memory = beyond-cleared (given .ready .memory) (worked .memory) z ez ce;
-      result = laid-front (g .laid);
+      result = inlaid-front (g .laid);
     }

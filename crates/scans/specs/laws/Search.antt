@@ -3,10 +3,10 @@ use mathlib.Core.Path.{_≡_, refl, ap, _∙_}
 use mathlib.Core.List.{List, [], _∷_}
 use Prim.Native.Nat.{ℕ, zero, suc, _≤_, min}
 use native.Mathlib.Omega.{arith}
-use lib.ListN.{length, drop, replicate, length-replicate}
+use lib.ListN.{length, replicate, length-replicate}
 use Rattle.basics.specs.Lists.{at}
-use Rattle.basics.specs.Rooms.{front, roomAfter, Begins}
-use Rattle.basics.specs.laws.Rooms.{begins-front, length-front, drop-front}
+use Rattle.basics.specs.Rooms.{front, roomAfter, Begins, Beyond}
+use Rattle.basics.specs.laws.Rooms.{begins-front, beyond-front}
 use Rattle.tables.specs.Suffix.{suffixTable}
 use Rattle.tables.specs.Shift.{shiftTable}
 use Rattle.tables.specs.laws.Suffix.{length-suffixTable}
@@ -148,15 +148,6 @@ aligned-is {x} {y} {s} {h} {e} {step} {q} {d′ = d′} {r = r} g p =
     }
 
 -- FOR THE LAYERS ABOVE: what an accepted search for the places at multiples of a step tells, without its tables
--- a room as long as it was, and unchanged from place n on
-pub record Beyond (n : ℕ) (d d′ : List ℕ) : Type 0 where
-  pub size : length d′ ≡ length d
-  pub rest : drop n d′ ≡ drop n d
-
-beyond-front : (n : ℕ) (t d : List ℕ) {d′ : List ℕ} → d′ ≡ front t d → length t ≡ n → n ≤ length d → Beyond n d d′
-beyond-front n t d e q l =
-    record { size = ap length e ∙ length-front t d (omega arith); rest = ap (drop n) e ∙ drop-front t d n (omega arith) }
-
 pub record Counted (x y s h e : List ℕ) (d : ℕ) (r : Tally) (s′ h′ e′ : List ℕ) : Type 0 where
   pub number : r .number ≡ length (multiples d (occurrences x y))
   pub first : r .first ≡ firstOf (multiples d (occurrences x y))
