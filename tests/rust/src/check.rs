@@ -1,6 +1,6 @@
 //! The overlap check: every block searched for the front of every other one, at every byte offset.
 
-use crate::log::{self, Refusal};
+use crate::log::{self, Entry, Refusal};
 use crate::scans;
 
 /// The most draws that a probe may have.
@@ -39,18 +39,26 @@ pub fn numbers_needed(c: usize) -> usize {
     4 * c * (c - 1)
 }
 
-fn search_all(log: &[u8], entries: &[log::Entry], probe_length: usize) -> Check {
+/// The pairs of one owner, searched blocks ascending: owner, searched id, first offset, occurrences. None where its
+/// block is shorter than a probe.
+pub fn pairs_of(log: &[u8], entries: &[Entry], owner: &Entry, probe_length: usize) -> Option<Vec<[u32; 4]>> {
+    let probe = owner.block(log).get(..probe_length)?;
+    let mut pairs = Vec::new();
+    for searched in entries.iter().filter(|searched| searched.id != owner.id) {
+        let offsets = scans::positions(probe, searched.block(log));
+        if let Some(&first) = offsets.first() {
+            pairs.push([owner.id, searched.id, first, offsets.len() as u32]);
+        }
+    }
+    Some(pairs)
+}
+
+fn search_all(log: &[u8], entries: &[Entry], probe_length: usize) -> Check {
     let mut found = Check::default();
-    for (a, owner) in entries.iter().enumerate() {
-        let Some(probe) = owner.block(log).get(..probe_length) else {
-            found.unprobed += 1;
-            continue;
-        };
-        for (b, searched) in entries.iter().enumerate() {
-            let offsets = scans::positions(probe, searched.block(log));
-            if a != b && !offsets.is_empty() {
-                found.result.extend([owner.id, searched.id, offsets[0], offsets.len() as u32]);
-            }
+    for owner in entries {
+        match pairs_of(log, entries, owner, probe_length) {
+            Some(pairs) => found.result.extend(pairs.concat()),
+            None => found.unprobed += 1,
         }
     }
     found

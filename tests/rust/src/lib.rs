@@ -10,12 +10,15 @@
 //! | [`scans`] | The two scans |
 //! | [`log`] | Draw log |
 //! | [`check`] | Overlap check |
+//! | [`listing`] | Overlap check: what `overlap` prints |
 //!
-//! [`words`] makes probes and streams, [`rooms`] makes rooms that show every write.
+//! [`words`] makes probes and streams, [`samples`] sound and damaged logs, [`rooms`] rooms that show every write.
 
 pub mod check;
+pub mod listing;
 pub mod log;
 pub mod rooms;
+pub mod samples;
 pub mod scans;
 pub mod tables;
 pub mod words;

@@ -5,6 +5,7 @@ use nahuitepol::Checked;
 use nahuitepol_tests::check::{check, numbers_needed, probe_length, MOST_DRAWS};
 use nahuitepol_tests::log::{self, document_log, draws, Parts};
 use nahuitepol_tests::rooms::Room;
+use nahuitepol_tests::samples::{self, numbered, refused_logs};
 use nahuitepol_tests::words::{fibonacci, Generator};
 
 /// The rooms that the check takes.
@@ -93,11 +94,6 @@ fn lines(blocks: &[&[u8]], p: u32) -> Vec<[u32; 4]> {
     numbers.chunks(4).map(|line| line.try_into().expect("four numbers")).collect()
 }
 
-fn numbered(blocks: &[&[u8]]) -> Parts {
-    let replicates: Vec<(u32, &[u8])> = (1..).zip(blocks.iter().copied()).collect();
-    Parts::of(&replicates)
-}
-
 fn refused(number: u32, entry: u32) -> Checked {
     Checked { refusal: number, entry, pairs: 0, unprobed: 0 }
 }
@@ -111,16 +107,9 @@ fn expect_refusal(log: &[u8], p: u32, work: Work, result: usize, number: u32, en
 fn random_parts(generator: &mut Generator, most_replicates: usize, most_draws: usize) -> Parts {
     let values = [0, 1, 1 << 8, 1 << 32, 0x0101_0101_0101_0101, u64::MAX];
     let kinds = generator.between(1, values.len());
-    let mut id = generator.pick(&[0, 3, 0xFFFF_FF00]);
-    let mut replicates = Vec::new();
-    for _ in 0..generator.between(1, most_replicates) {
-        let length = generator.between(0, most_draws);
-        let block = draws((0..length).map(|_| values[generator.below(kinds)]));
-        replicates.push((id, block));
-        id += generator.between(1, 3) as u32;
-    }
-    let lent: Vec<(u32, &[u8])> = replicates.iter().map(|(id, block)| (*id, &block[..])).collect();
-    Parts::of(&lent)
+    samples::random_parts(generator, most_replicates, most_draws, |generator, length| {
+        draws((0..length).map(|_| values[generator.below(kinds)]))
+    })
 }
 
 #[test]
@@ -346,29 +335,9 @@ fn every_choice_of_short_exact_and_longer_rooms() {
 
 #[test]
 fn refused_logs_carry_their_number_and_entry() {
-    let sound = numbered(&[&draws([1]), &draws([2]), &draws([3])]);
-    let mut repeated_id = sound.clone();
-    repeated_id.entries[2].id = 2;
-    let mut misplaced = sound.clone();
-    misplaced.entries[1].start = 0;
-    let mut odd = sound.clone();
-    odd.entries[2].length = 7;
-    let mut ends_late = sound.clone();
-    ends_late.entries[2].length = 16;
-    let cases = [
-        (sound.bytes()[..11].to_vec(), 10, 0),
-        (vec![0; 65_537], 11, 0),
-        (Parts { mark: [0; 4], ..sound.clone() }.bytes(), 12, 0),
-        (Parts { count: 65, ..sound.clone() }.bytes(), 13, 0),
-        (Parts { count: 2, ..sound.clone() }.bytes(), 14, 0),
-        (repeated_id.bytes(), 15, 2),
-        (misplaced.bytes(), 16, 1),
-        (odd.bytes(), 17, 2),
-        (ends_late.bytes(), 16, 3),
-    ];
-    for (log, number, entry) in cases {
-        expect_refusal(&log, 1, [8; 3], 24, number, entry);
-        expect_refusal(&log, 0, [0; 3], 0, number, entry);
+    for (log, refusal) in refused_logs() {
+        expect_refusal(&log, 1, [8; 3], 24, refusal.number, refusal.entry);
+        expect_refusal(&log, 0, [0; 3], 0, refusal.number, refusal.entry);
     }
 }
 

@@ -3,10 +3,8 @@
 
 use nahuitepol::{Found, Tested};
 use nahuitepol_tests::log::{self, document_log, draws, Entry, Parts, LONGEST};
+use nahuitepol_tests::samples::{self, damage, with_entries, NEARLY_ALL};
 use nahuitepol_tests::words::Generator;
-
-/// 2^32 − 8: the greatest multiple of 8 that has 32 bits.
-const NEARLY_ALL: u32 = u32::MAX - 7;
 
 fn expected_test(log: &[u8]) -> Tested {
     match log::test(log) {
@@ -51,55 +49,16 @@ fn entry(id: u32, start: u32, length: u32) -> Entry {
     Entry { id, start, length }
 }
 
-/// A log with these entries over a stretch of blocks; directory start, count and mark are right.
-fn with_entries(block_bytes: usize, entries: &[Entry]) -> Parts {
-    Parts {
-        blocks: vec![0x11; block_bytes],
-        entries: entries.to_vec(),
-        directory_start: block_bytes as u32,
-        count: entries.len() as u32,
-        mark: log::MARK,
-    }
-}
-
 /// A sound log of three replicates, 1, 2 and 3, with 8, 0 and 16 bytes.
 fn three_replicates() -> Parts {
     Parts::of(&[(1, &draws([5])), (2, &[]), (3, &draws([6, 7]))])
 }
 
-/// A sound log with ids that rise by chance and blocks of up to `most_draws` draws.
+/// A sound log with blocks of random bytes.
 fn random_parts(generator: &mut Generator, most_replicates: usize, most_draws: usize) -> Parts {
-    let count = generator.between(1, most_replicates);
-    let mut id = generator.pick(&[0, 1, 1_000, 0xFFFF_0000]);
-    let mut replicates = Vec::new();
-    for _ in 0..count {
-        let length = generator.between(0, most_draws);
-        replicates.push((id, generator.word(256, 8 * length)));
-        id += generator.between(1, 3) as u32;
-    }
-    let lent: Vec<(u32, &[u8])> = replicates.iter().map(|(id, block)| (*id, &block[..])).collect();
-    Parts::of(&lent)
-}
-
-/// A number near the places where a comparison or a sum tips over.
-fn telling_number(generator: &mut Generator, block_bytes: usize) -> u32 {
-    let near = block_bytes as u32;
-    let small = generator.below(70) as u32;
-    generator.pick(&[0, 1, 4, 8, 16, near, near + 1, near + 8, small, 1 << 31, NEARLY_ALL, u32::MAX])
-}
-
-/// Sets one field of the log wrong, or perhaps right again.
-fn damage(generator: &mut Generator, parts: &mut Parts) {
-    let number = telling_number(generator, parts.blocks.len());
-    let chosen = generator.below(parts.entries.len());
-    match generator.below(8) {
-        0 => parts.entries[chosen].id = number,
-        1 | 2 => parts.entries[chosen].start = number,
-        3 | 4 => parts.entries[chosen].length = number,
-        5 => parts.directory_start = number,
-        6 => parts.count = number,
-        _ => parts.mark[chosen % 4] ^= 1,
-    }
+    samples::random_parts(generator, most_replicates, most_draws, |generator, length| {
+        generator.word(256, 8 * length)
+    })
 }
 
 #[test]
