@@ -138,7 +138,7 @@ fn test_entries(entries: &[Entry], directory_start: u32) -> Result<(), Refusal> 
     let mut end_before = 0;
     for (k, entry) in entries.iter().enumerate() {
         let k = k as u32;
-        if id_before.is_some_and(|before| entry.id <= before) {
+        if matches!(id_before, Some(before) if entry.id <= before) {
             return Err(Refusal::at(15, k));
         }
         if u64::from(entry.start) != end_before {
