@@ -15,6 +15,9 @@ use nahuitepol_tests::words::{fibonacci, Generator};
 
 const PROGRAM: &str = concat!(env!("CARGO_MANIFEST_DIR"), "/../../target/bin/overlap");
 
+/// Document 01's log as the repository has it, for the gate and the examples.
+const STORED_LOG: &str = concat!(env!("CARGO_MANIFEST_DIR"), "/../../crates/overlap/stdin");
+
 /// The bytes that the program reads before it stops: one more than a log may have.
 const READ_AT_MOST: usize = LONGEST + 1;
 
@@ -115,7 +118,9 @@ fn random_log(generator: &mut Generator) -> Parts {
 
 #[test]
 fn the_log_of_document_01() {
-    expect(&document_log(), "replicates 3 probe 32\n3 7 64 1\nunprobed 9\ntotal 1 1\n");
+    let stored = fs::read(STORED_LOG).expect("the stored log is there");
+    assert!(stored == document_log(), "the stored log is not document 01's");
+    expect(&stored, "replicates 3 probe 32\n3 7 64 1\nunprobed 9\ntotal 1 1\n");
 }
 
 #[test]

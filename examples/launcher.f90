@@ -1,10 +1,10 @@
 !> Checks a draw log for a launcher: do two replicates share draws?
 !>
-!>   example LOG
+!>   launcher LOG
 !>
 !> Prints a line for each overlapping pair, then the totals. Ends with status 0 if the log is sound and no pair
 !> overlaps, with 1 if one does, and with 2 if the log is refused or cannot be read.
-program example
+program launcher
   use, intrinsic :: iso_c_binding, only: c_int8_t, c_int32_t
   use, intrinsic :: iso_fortran_env, only: error_unit
   use nahuitepol
@@ -37,7 +37,7 @@ contains
     character(len=4096) :: name
     integer :: unit, length, problem
 
-    if (command_argument_count() /= 1) call give_up('usage: example LOG')
+    if (command_argument_count() /= 1) call give_up('usage: launcher LOG')
     call get_command_argument(1, name)
     open(newunit=unit, file=trim(name), access='stream', form='unformatted', action='read', status='old', &
         iostat=problem)
@@ -67,4 +67,4 @@ contains
     stop 2, quiet=.true.
   end subroutine give_up
 
-end program example
+end program launcher
