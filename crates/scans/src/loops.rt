@@ -99,14 +99,24 @@ fn through(
     let mut count: u64 = 0;
     while p.at + m <= y.len() {
         let j = p.at;
-        let w = windows::remembering(x, y, suffix, mem, p, top, count);
-        let left = w.left;
-        count = w.count;
         visited += 1;
-        hits = hits::note(room, hits, step, j, left);
-        top = memory::keep(mem, m, p, top, w.kept);
-        let d = moves::by(x, y, shift, occ, j, left);
-        p = memory::on(m, p, d);
+        let met = windows::last(x, y, j, count);
+        count = met.count;
+        if met.equal {
+            let w = windows::remembering(x, y, suffix, mem, p, top, count);
+            let left = w.left;
+            count = w.count;
+            // The next window waits for the move alone, so the move comes before the notes.
+            let d = moves::by(x, y, shift, occ, j, left);
+            let next = memory::on(m, p, d);
+            hits = hits::note(room, hits, step, j, left);
+            top = memory::keep(mem, m, p, top, w.kept);
+            p = next;
+        } else {
+            // Most windows stop here, with nothing to note.
+            let d = moves::by(x, y, shift, occ, j, m);
+            p = memory::on(m, p, d);
+        }
     }
     Run {
         hits,

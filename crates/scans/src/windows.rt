@@ -2,21 +2,21 @@
 //
 // A window's end is a number, `left`: 0 where it matched, and i + 1 where it stopped at index i.
 ghost use mathlib.Core.Path.{_≡_};
-ghost use Prim.Native.Nat.{_+_, _<_, _≤_};
+ghost use Prim.Native.Nat.{_+_, _-_, _<_, _≤_};
 ghost use lib.Dec.{eqb};
 ghost use lib.ListN.{length};
 ghost use Rattle.basics.specs.Lists.{at};
 ghost use Rattle.scans.specs.Plain.{plainPass};
-ghost use Rattle.scans.specs.Remember.{memFrom, memPass};
+ghost use Rattle.scans.specs.Remember.{memFrom};
 ghost use Rattle.scans.specs.inside.Slots.{recalled, Stands};
 ghost use Rattle.scans.specs.inside.Window.{seenOf, passedAs, passedOf, Lies, Ahead, Recalling, Quiet};
 use crate::memory;
 use crate::memory::Place;
 
 // Two bytes compared, and the comparisons made so far.
-struct Met {
-    equal: bool,
-    count: u64,
+pub(crate) struct Met {
+    pub equal: bool,
+    pub count: u64,
 }
 
 // A window compared, and the comparisons made so far.
@@ -45,13 +45,13 @@ fn meet(a: u8, b: u8, count: u64) -> Met
     }
 }
 
-// Compares from the last index down to `low`.
-fn ahead(x: &[u8], y: &[u8], j: usize, low: usize, count: u64) -> Seen
+// Compares from index `high` - 1 down to `low`.
+fn ahead(x: &[u8], y: &[u8], j: usize, high: usize, low: usize, count: u64) -> Seen
     requires { ⌜ Lies (now x) (now y) j ⌝ }
-    requires { ⌜ (low ≤ length (now x)) × (count < 1099511627776) ⌝ }
-    ensures { λ r. ⌜ Ahead (now (x .entry)) (now (y .entry)) j low count r ⌝ }
+    requires { ⌜ (low ≤ high) × (high ≤ length (now x)) × (count < 1099511631872) ⌝ }
+    ensures { λ r. ⌜ Ahead (now (x .entry)) (now (y .entry)) j high low count r ⌝ }
 {
-    let mut k = x.len();
+    let mut k = high;
     let mut c = count;
     while low < k {
         let i = k - 1;
@@ -72,10 +72,22 @@ pub(crate) fn plainly(x: &[u8], y: &[u8], j: usize, count: u64) -> Seen
     ensures pass { λ r. ⌜ r ≡ seenOf (plainPass (now (x .entry)) (now (y .entry)) j) count ⌝ }
     ensures within { λ r. ⌜ r .left ≤ length (now (x .entry)) ⌝ }
 {
-    ahead(x, y, j, 0, count)
+    ahead(x, y, j, x.len(), 0, count)
 }
 
-// The remembering window at `start`. At `top` and above it nothing is remembered, so nothing is looked up.
+// The last byte of the window at j. Nothing is remembered of it, so it is compared in any case.
+pub(crate) fn last(x: &[u8], y: &[u8], j: usize, count: u64) -> Met
+    requires { ⌜ Lies (now x) (now y) j ⌝ }
+    requires { ⌜ count < 1099511627776 ⌝ }
+    ensures equal { λ r. ⌜ r .equal ≡ eqb (at (now (y .entry)) (j + (length (now (x .entry)) - 1))) (at (now (x .entry)) (length (now (x .entry)) - 1)) ⌝ }
+    ensures count { λ r. ⌜ r .count ≡ count + 1 ⌝ }
+{
+    let i = x.len() - 1;
+    meet(y[j + i], x[i], count)
+}
+
+// The remembering window at `start` before its last byte. At `top` and above it nothing is remembered, so nothing is
+// looked up.
 pub(crate) fn remembering(
     x: &[u8],
     y: &[u8],
@@ -89,12 +101,12 @@ pub(crate) fn remembering(
     requires { ⌜ Recalling (now x) (now suffix) (now mem) ⌝ }
     requires { ⌜ Stands (length (now x)) (start .at) start ⌝ }
     requires { ⌜ Quiet (length (now x)) (now mem) (start .at) top ⌝ }
-    requires { ⌜ count < 1099511627776 ⌝ }
-    ensures pass { λ r. ⌜ r ≡ passedOf (memPass (now (x .entry)) (now (y .entry)) (recalled (now (mem .entry)) (length (now (x .entry)))) (start .at)) count ⌝ }
+    requires { ⌜ count ≤ 1099511627776 ⌝ }
+    ensures pass { λ r. ⌜ r ≡ passedOf (memFrom (now (x .entry)) (now (y .entry)) (recalled (now (mem .entry)) (length (now (x .entry)))) (start .at) (length (now (x .entry)) - 1) (length (now (x .entry)) - 1)) count ⌝ }
     ensures within { λ r. ⌜ (r .left ≤ length (now (x .entry))) × (r .kept ≤ length (now (x .entry))) ⌝ }
 {
     let low = basics::less(top, start.at);
-    let seen = ahead(x, y, start.at, low, count);
+    let seen = ahead(x, y, start.at, x.len() - 1, low, count);
     let left = seen.left;
     if low < left {
         return Passed {

@@ -45,14 +45,14 @@ pub record Lies (x y : List ℕ) (j : ℕ) : Type 0 where
   pub sizes : Sizes x y
   pub within : j + length x ≤ length y
 
--- Bytes compared from the last index down to low. Those from r.left on are equal; where r.left is above low, the bytes before it are not.
-pub record Ahead (x y : List ℕ) (j low c : ℕ) (r : Seen) : Type 0 where
+-- Bytes compared from index high − 1 down to low. Those from r.left on are equal; where r.left is above low, the bytes before it are not.
+pub record Ahead (x y : List ℕ) (j high low c : ℕ) (r : Seen) : Type 0 where
   pub from : low ≤ r .left
-  pub to : r .left ≤ length x
-  pub equal : (t : ℕ) → r .left ≤ t → t < length x → at y (j + t) ≡ at x t
+  pub to : r .left ≤ high
+  pub equal : (t : ℕ) → r .left ≤ t → t < high → at y (j + t) ≡ at x t
   pub stops : low < r .left → at y (j + (r .left - 1)) ≡ at x (r .left - 1) → ⊥
-  pub all : r .left ≤ low → r .count + r .left ≡ c + length x
-  pub some : low < r .left → r .count + r .left ≡ c + length x + 1
+  pub all : r .left ≤ low → r .count + r .left ≡ c + high
+  pub some : low < r .left → r .count + r .left ≡ c + high + 1
 
 -- the shift room and the occurrence table are those of x
 pub record Moving (x shift occ : List ℕ) : Type 0 where
@@ -69,9 +69,9 @@ pub record Memory (m : ℕ) (mem : List ℕ) (j top : ℕ) (R : ℕ → ℕ) : T
   pub says : (h : ℕ) → j ≤ h → recalled mem m h ≡ R h
   pub quiet : (h : ℕ) → top ≤ h → R h ≡ 0
 
--- the memory room says nothing from top on, as far as a window at j looks
+-- the memory room says nothing from top on, as far as a window at j looks: of its last byte in any case
 pub record Quiet (m : ℕ) (mem : List ℕ) (j top : ℕ) : Type 0 where
-  pub under : top ≤ j + m
+  pub under : top < j + m
   pub quiet : (h : ℕ) → j ≤ h → top ≤ h → recalled mem m h ≡ 0
 
 -- v remembered at the end of the window at j

@@ -1,9 +1,12 @@
 -- What the window functions give, said of the passes of the definitions. Assumes nothing.
 use mathlib.Core.Path.{_≡_, refl, sym, ap, _∙_}
+use mathlib.Core.Bool.{Bool, true, false}
 use mathlib.Core.List.{List}
 use Prim.Native.Nat.{ℕ, zero, suc, _+_, _-_, _≤_, _<_}
 use native.Mathlib.Nat.{add-zero, add-suc}
 use native.Mathlib.Omega.{arith}
+use borrow.Author.Tests.{eqb-true, eqb-false}
+use lib.Dec.{eqb}
 use lib.ListN.{length}
 use Rattle.basics.specs.Lists.{at}
 use Rattle.tables.specs.Suffix.{suffixAt}
@@ -35,21 +38,21 @@ module _ (x y : List ℕ) (R : ℕ → ℕ) (j : ℕ) where
       ∙ mem-over n k (c + 1) (λ t a b. z t a (omega arith)) (λ t a b. e t a (omega arith))
       ∙ ap (λ (n : ℕ). passedOf (memFrom x y R j k k) n) u)
 
-  module _ (low c : ℕ) (r : Seen) (a : Ahead x y j low c r) (quiet : (t : ℕ) → low ≤ t → R (j + t) ≡ 0) where
+  module _ (high low c : ℕ) (r : Seen) (a : Ahead x y j high low c r) (quiet : (t : ℕ) → low ≤ t → R (j + t) ≡ 0) where
     -- all bytes down to low are equal: the pass goes on from low
-    ahead-all : r .left ≤ low → passedOf (memPass x y R j) c ≡ passedOf (memFrom x y R j low low) (r .count)
+    ahead-all : r .left ≤ low → passedOf (memFrom x y R j high high) c ≡ passedOf (memFrom x y R j low low) (r .count)
     ahead-all h =
-        let n : ℕ = length x - low in
-        let u : low + n ≡ length x = omega (arith, a .from, a .to) in
+        let n : ℕ = high - low in
+        let u : low + n ≡ high = omega (arith, a .from, a .to) in
         let v : c + n ≡ r .count = omega (arith, a .from, a .to, a .all h) in
         rw (u, v) at (mem-over n low c (λ t p q. quiet t p) (λ t p q. a .equal t (omega (arith, a .from)) (omega arith)))
 
     -- two bytes are unequal: the pass stops
-    ahead-some : low < r .left → passedOf (memPass x y R j) c ≡ record { left = r .left; kept = length x - r .left; count = r .count }
+    ahead-some : low < r .left → passedOf (memFrom x y R j high high) c ≡ record { left = r .left; kept = length x - r .left; count = r .count }
     ahead-some h =
-        let n : ℕ = length x - r .left in
+        let n : ℕ = high - r .left in
         let i : ℕ = r .left - 1 in
-        let u : r .left + n ≡ length x = omega (arith, a .to) in
+        let u : r .left + n ≡ high = omega (arith, a .to) in
         let s : suc i ≡ r .left = omega arith in
         let v : c + n + 1 ≡ r .count = omega (arith, a .to, a .some h) in
         let w : length x - 1 - i ≡ length x - r .left = omega arith in
@@ -61,32 +64,59 @@ module _ (x y : List ℕ) (R : ℕ → ℕ) (j : ℕ) where
 abbrev seen : Passed → Seen
 seen p = record { left = p .left; count = p .count }
 
-pub plain-ahead : (x y : List ℕ) (j c : ℕ) (r : Seen) → Ahead x y j 0 c r → r ≡ seenOf (plainPass x y j) c
+pub plain-ahead : (x y : List ℕ) (j c : ℕ) (r : Seen) → Ahead x y j (length x) 0 c r → r ≡ seenOf (plainPass x y j) c
 unfolding memFrom
 plain-ahead x y j c r a = go (r .left) refl ∙ ap (λ (p : Pass). seenOf p c) (sym (plain-mem x y j (length x)))
   where
     go : (l : ℕ) → r .left ≡ l → r ≡ seenOf (memPass x y (λ e. 0) j) c
     go zero e =
         let q : r .count ≡ r .count + 0 = omega arith in
-        (λ k. record { left = e k; count = q k }) ∙ sym (ap seen (ahead-all x y (λ e. 0) j 0 c r a (λ t p. refl) (omega arith)))
-    go (suc l) e = sym (ap seen (ahead-some x y (λ e. 0) j 0 c r a (λ t p. refl) (omega arith)))
+        (λ k. record { left = e k; count = q k }) ∙ sym (ap seen (ahead-all x y (λ e. 0) j (length x) 0 c r a (λ t p. refl) (omega arith)))
+    go (suc l) e = sym (ap seen (ahead-some x y (λ e. 0) j (length x) 0 c r a (λ t p. refl) (omega arith)))
 
--- THE WHOLE REMEMBERING WINDOW, as the code takes it: at `low` and above nothing is remembered, so there it only compares
-module _ (x y mem : List ℕ) (j top low c : ℕ) {r : Seen} (e : low ≡ top - j) (a : Ahead x y j low c r) (q : Quiet (length x) mem j top) where
+-- THE REMEMBERING WINDOW, as the code takes it. First its last byte, of which nothing is remembered
+module _ (x y mem : List ℕ) (j top c : ℕ) (some : 1 ≤ length x) (q : Quiet (length x) mem j top) where
+  abbrev said : ℕ → ℕ
+  said = recalled mem (length x)
+
+  abbrev last : ℕ
+  last = length x - 1
+
+  whole : suc last ≡ length x
+  whole = omega arith
+
+  unknown : said (j + last) ≡ 0
+  unknown = q .quiet (j + last) (omega arith) (omega (arith, q .under))
+
+  module _ {c′ : ℕ} {same : Bool} (told : same ≡ eqb (at y (j + last)) (at x last)) (one : c′ ≡ c + 1) where
+    pub last-equal : same ≡ true → {w : Passed} → w ≡ passedOf (memFrom x y said j last last) c′ → w ≡ passedOf (memPass x y said j) c
+    last-equal e p =
+        p
+        ∙ rw one (sym (passed-more (memFrom x y said j last last) c))
+        ∙ ap (λ (p : Pass). passedOf p c) (sym (rw whole at (step-same x y said j last last unknown (eqb-true _ _ (sym told ∙ e)))))
+
+    pub last-unequal : same ≡ false → record { left = length x; kept = 0; count = c′ } ≡ passedOf (memPass x y said j) c
+    last-unequal e =
+        let none : 0 ≡ length x - 1 - last = omega arith in
+        (λ k. record { left = sym whole k; kept = none k; count = one k })
+        ∙ ap (λ (p : Pass). passedOf p c) (sym (rw whole at (step-diff x y said j last last unknown (eqb-false _ _ (sym told ∙ e)))))
+
+-- then the others: at `low` and above nothing is remembered, so there it only compares
+module _ (x y mem : List ℕ) (j top low c : ℕ) {r : Seen} (e : low ≡ top - j) (a : Ahead x y j (length x - 1) low c r) (q : Quiet (length x) mem j top) where
   nothing : (t : ℕ) → low ≤ t → recalled mem (length x) (j + t) ≡ 0
   nothing t l = q .quiet (j + t) (omega arith) (omega arith)
 
   pub window-stops : low < r .left
-      → (record { left = r .left; kept = length x - r .left; count = r .count } ≡ passedOf (memPass x y (recalled mem (length x)) j) c)
+      → (record { left = r .left; kept = length x - r .left; count = r .count } ≡ passedOf (memFrom x y (recalled mem (length x)) j (length x - 1) (length x - 1)) c)
       × ((r .left ≤ length x) × (length x - r .left ≤ length x))
-  window-stops l = (sym (ahead-some x y (recalled mem (length x)) j low c r a nothing l), (a .to, omega arith))
+  window-stops l = (sym (ahead-some x y (recalled mem (length x)) j (length x - 1) low c r a nothing l), (omega (arith, a .to), omega arith))
 
   pub window-goes-on : r .left ≤ low → {w : Passed} → w ≡ passedOf (memFrom x y (recalled mem (length x)) j low low) (r .count)
-      → (w ≡ passedOf (memPass x y (recalled mem (length x)) j) c) × ((w .left ≤ length x) × (w .kept ≤ length x))
+      → (w ≡ passedOf (memFrom x y (recalled mem (length x)) j (length x - 1) (length x - 1)) c) × ((w .left ≤ length x) × (w .kept ≤ length x))
   window-goes-on l {w} p =
       let R : ℕ → ℕ = recalled mem (length x) in
       let u : low ≤ length x = omega (arith, a .from, a .to) in (
-        p ∙ sym (ahead-all x y R j low c r a nothing l),
+        p ∙ sym (ahead-all x y R j (length x - 1) low c r a nothing l),
         (omega (arith, ap (λ (w : Passed). w .left) p, mem-left x y R j low low), omega (arith, ap (λ (w : Passed). w .kept) p, mem-kept x y R j low low)),
       )
 

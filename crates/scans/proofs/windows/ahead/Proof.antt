@@ -6,17 +6,16 @@ use mathlib.Core.Logic.{⊎-elim}
 use native.Mathlib.Nat.{eq-or-lt-of-le}
 use native.Mathlib.Omega.{arith}
 use borrow.Author.Tests.{eqb-true, eqb-false, not-true, not-false}
-use lib.ListN.{length}
 use Rattle.basics.specs.Lists.{at}
 use Rattle.scans.proofs.windows.ahead.Statement.{statement}
 use Rattle.scans.proofs.windows.ahead.Tie as tie
 
 abbrev Inv-loop : tie.InvT-loop
-Inv-loop x y j low count k₀ c₀ k c =
-    (low ≤ k) × (k ≤ length x) × (c + k ≡ count + length x) × ((t : ℕ) → k ≤ t → t < length x → at y (j + t) ≡ at x t)
+Inv-loop x y j high low count k₀ c₀ k c =
+    (low ≤ k) × (k ≤ high) × (c + k ≡ count + high) × ((t : ℕ) → k ≤ t → t < high → at y (j + t) ≡ at x t)
 
 abbrev μ-loop : tie.MeasureT-loop
-μ-loop x y j low count k₀ c₀ k c = k
+μ-loop x y j high low count k₀ c₀ k c = k
 
 loop-holds : tie.Need-loop-holds Inv-loop μ-loop
 loop-holds c = (omega arith, omega arith, omega arith, λ t u v. absurd (omega arith))

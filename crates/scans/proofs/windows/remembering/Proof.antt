@@ -1,4 +1,4 @@
--- `scans::windows::remembering` meets its contract: what is compared above `low`, and what is passed below it, is the whole window.
+-- `scans::windows::remembering` meets its contract: what is compared above `low`, and what is passed below it, is all of the window before its last byte.
 -- Assumes nothing.
 use native.Mathlib.Omega.{arith}
 use lib.ListN.{length}
@@ -11,11 +11,14 @@ use Rattle.scans.proofs.windows.remembering.Tie as tie
 less-requires : tie.Need-less-requires
 less-requires c κs = search needs
 
+sub-ahead : tie.Need-sub-ahead
+sub-ahead c = search needs
+
 ahead-requires : tie.Need-ahead-requires
 ahead-requires c κs = search needs
 
-sub-t13 : tie.Need-sub-t13
-sub-t13 c = search needs
+sub-t15 : tie.Need-sub-t15
+sub-t15 c = search needs
 
 returns : tie.Need-returns
 returns c =
@@ -42,8 +45,9 @@ remembering-spec =
     tie.close
     (tie.spec
     less-requires
+    sub-ahead
     ahead-requires
-    sub-t13
+    sub-t15
     returns
     below-requires
     returns-2)
