@@ -1,17 +1,13 @@
 -- Lists of numbers. Assumes nothing.
 use mathlib.Core.Bool.{Bool, true, false, _&&_}
 use mathlib.Core.List.{List, [], _∷_, _++_}
-use Prim.Native.Nat.{ℕ, zero, suc, _<_}
+use Prim.Native.Nat.{ℕ, zero, suc}
 use lib.Dec.{eqb}
 use lib.ListN.{getD}
 
 -- what stands at place i
 abbrev pub at : List ℕ → ℕ → ℕ
 at x i = getD x i 0
-
--- each number is a byte
-abbrev pub Bytes : List ℕ → Type 0
-Bytes x = (i : ℕ) → at x i < 256
 
 -- two lists are the same
 unfoldable pub same : List ℕ → List ℕ → Bool

@@ -3,7 +3,8 @@ use mathlib.Core.Path.{_≡_}
 use mathlib.Core.List.{List}
 use Prim.Native.Nat.{ℕ, _+_, _*_, _≤_}
 use lib.ListN.{length}
-use Rattle.basics.specs.Rooms.{Beyond, Inlaid}
+use Rattle.basics.specs.laws.Rooms.{Beyond}
+use Rattle.basics.specs.laws.Inlaid.{Inlaid}
 use Rattle.pairs.specs.Check.{Pair, numbers}
 
 -- the three work rooms f, h, e after searches for a probe of m bytes

@@ -19,7 +19,7 @@ ghost use Rattle.drawlog.specs.Promise.{testedOf};
 ghost use Rattle.pairs.specs.Check.{probeSize, probed, pairWith, pairsWith, pairsOf, pairs, unprobed};
 ghost use Rattle.pairs.specs.Refusal.{longest, needed, ownCause, causeOf};
 ghost use Rattle.pairs.specs.Promise.{step, Checking};
-ghost use Rattle.basics.specs.Rooms.{Inlaid};
+ghost use Rattle.basics.specs.laws.Inlaid.{Inlaid};
 ghost use Rattle.pairs.specs.Inside.{Worked, Ready, Found};
 use basics::wide;
 use drawlog::Cause;

@@ -7,7 +7,12 @@ use native.Mathlib.Numerals.{add-one}
 use native.Mathlib.Omega.{arith}
 use lib.ListN.{length, take, drop, set, length-append, length-take, length-drop, length-set}
 use lib.Seq.{set-split, take-at, drop-at, drop-drop}
-use Rattle.basics.specs.Rooms.{front, Inlaid}
+use Rattle.basics.specs.Rooms.{front}
+
+-- the room d′ is the room d with the list w from place p on
+pub record Inlaid (d : List ℕ) (p : ℕ) (w d′ : List ℕ) : Type 0 where
+  pub room : p + length w ≤ length d
+  pub is : d′ ≡ take p d ++ (w ++ drop (p + length w) d)
 
 pub inlaid-length : {d w d′ : List ℕ} {p : ℕ} → Inlaid d p w d′ → length d′ ≡ length d
 inlaid-length l = ap length (l .is) ∙ simp (length-append, length-take, length-drop) (omega (arith, l .room))

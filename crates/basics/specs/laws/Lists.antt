@@ -14,6 +14,10 @@ use lib.ListN.{length, take, set, length-append, length-set, List·getD-append}
 use lib.Seq.{slice, length-slice, ext-getD, getD-at, getD-drop, getD-take, getD-set-same, getD-set-other}
 use Rattle.basics.specs.Lists.{at, same, table}
 
+-- each number is a byte
+abbrev pub Bytes : List ℕ → Type 0
+Bytes x = (i : ℕ) → at x i < 256
+
 pub same-refl : (x : List ℕ) → same x x ≡ true
 unfolding same
 same-refl [] = refl

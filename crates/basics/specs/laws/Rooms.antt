@@ -7,7 +7,7 @@ use native.Mathlib.Omega.{arith}
 use lib.ListN.{length, getD, drop, set, replicate, length-replicate, length-append, length-drop, List·getD-append}
 use lib.Seq.{drop-cons, drop-at, drop-drop, set-at, set-append-left}
 use Rattle.basics.specs.Lists.{at, table}
-use Rattle.basics.specs.Rooms.{front, roomAfter, Begins, Beyond}
+use Rattle.basics.specs.Rooms.{front, roomAfter, Begins}
 use Rattle.basics.specs.laws.Lists.{length-table, at-table, table-ext, set-table}
 
 -- a refusal leaves the room
@@ -45,7 +45,11 @@ front-again t d {d₁} p = p ∙ sym (front-then t t d d₁ p refl (omega arith)
 pub cleared : (n : ℕ) (d : List ℕ) {d′ : List ℕ} → n ≤ length d → d′ ≡ front (replicate (min n (length d)) 0) d → d′ ≡ front (replicate n 0) d
 cleared n d h e = let q : min n (length d) ≡ n = omega arith in rw q at e
 
--- UNCHANGED FROM A PLACE ON
+-- UNCHANGED FROM A PLACE ON: the room d′ is as long as the room d was, and the same from place n on
+pub record Beyond (n : ℕ) (d d′ : List ℕ) : Type 0 where
+  pub size : length d′ ≡ length d
+  pub rest : drop n d′ ≡ drop n d
+
 pub beyond-none : {n : ℕ} {d : List ℕ} → Beyond n d d
 beyond-none = record { size = refl; rest = refl }
 

@@ -6,9 +6,9 @@ use Prim.Native.Nat.{ℕ, _+_, _*_, _≤_, _<_}
 use native.Mathlib.Omega.{arith}
 use lib.ListN.{length, drop, length-drop}
 use lib.Seq.{ext-getD, getD-drop}
-use Rattle.basics.specs.Lists.{at, Bytes}
+use Rattle.basics.specs.Lists.{at}
 use Rattle.basics.specs.laws.Tests.{is-false}
-use Rattle.basics.specs.laws.Lists.{same-refl, same-true}
+use Rattle.basics.specs.laws.Lists.{Bytes, same-refl, same-true}
 use Rattle.drawlog.specs.declared.layout.Log.{Log}
 use Rattle.drawlog.specs.Number.{number}
 use Rattle.drawlog.specs.Log.{entrySize, trailerSize, mark, trailer, marked, logOf, place, idAt, startAt, lengthAt}

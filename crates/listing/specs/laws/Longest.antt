@@ -7,7 +7,7 @@ use Prim.Native.Nat.{ℕ, zero, suc, _+_, _*_, _≤_, _<_, zero-le}
 use native.Mathlib.Numerals.{add-one}
 use native.Mathlib.Omega.{arith}
 use lib.ListN.{length, length-append}
-use Rattle.basics.specs.Lists.{Bytes}
+use Rattle.basics.specs.laws.Lists.{Bytes}
 use Rattle.basics.specs.laws.Tests.{bool-case, equal-or-not}
 use Rattle.lines.specs.Digits.{digits}
 use Rattle.lines.specs.laws.Digits.{digits-most}

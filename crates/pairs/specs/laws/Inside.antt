@@ -5,9 +5,8 @@ use Prim.Native.Nat.{ℕ, _+_, _*_, _≤_, _<_, min}
 use native.Mathlib.Nat.{add-zero}
 use native.Mathlib.Omega.{arith}
 use lib.ListN.{length, take, drop, length-append}
-use Rattle.basics.specs.Rooms.{Inlaid}
 use Rattle.basics.specs.laws.Rooms.{beyond-none, beyond-then}
-use Rattle.basics.specs.laws.Inlaid.{inlaid-length, inlaid-none, inlaid-then}
+use Rattle.basics.specs.laws.Inlaid.{Inlaid, inlaid-length, inlaid-none, inlaid-then}
 use Rattle.scans.specs.declared.Tally.{Tally}
 use Rattle.scans.specs.Occurrences.{occurrences, multiples, firstOf}
 use Rattle.scans.specs.Promise.{Aligning}

@@ -4,7 +4,7 @@ use Prim.Native.Nat.{ℕ, zero, suc, _≤_, _<_}
 use native.Mathlib.Omega.{arith}
 use lib.Dec.{eqb}
 use lib.ListN.{length}
-use Rattle.basics.specs.Lists.{Bytes}
+use Rattle.basics.specs.laws.Lists.{Bytes}
 use Rattle.scans.specs.Occurrences.{occurrences, multiples, firstOf}
 use Rattle.scans.specs.laws.Occurrences.{multiples-few, multiples-near}
 use Rattle.drawlog.specs.Log.{count, idAt}

@@ -5,8 +5,8 @@ use Prim.Native.Nat.{ℕ, zero, suc, _≤_, min}
 use native.Mathlib.Omega.{arith}
 use lib.ListN.{length, replicate, length-replicate}
 use Rattle.basics.specs.Lists.{at}
-use Rattle.basics.specs.Rooms.{front, roomAfter, Begins, Beyond}
-use Rattle.basics.specs.laws.Rooms.{begins-front, beyond-front}
+use Rattle.basics.specs.Rooms.{front, roomAfter, Begins}
+use Rattle.basics.specs.laws.Rooms.{Beyond, begins-front, beyond-front}
 use Rattle.tables.specs.Suffix.{suffixTable}
 use Rattle.tables.specs.Shift.{shiftTable}
 use Rattle.tables.specs.laws.Suffix.{length-suffixTable}
