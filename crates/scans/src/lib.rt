@@ -21,6 +21,7 @@
 // 4. Only the last m positions are remembered, in a room of m entries that is cleared once before and once after: an
 //    entry carries the position for which it was written (`memory`).
 // 5. Above the last position where a length was remembered nothing is looked up (`windows::remembering`).
+// 6. The last byte of a window, of which nothing can be remembered, is compared by itself (`windows::last`).
 ghost use mathlib.Core.Path.{_≡_};
 ghost use Prim.Native.Nat.{_≤_};
 ghost use lib.ListN.{length};
