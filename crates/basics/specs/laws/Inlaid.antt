@@ -65,6 +65,6 @@ inlaid-four d p u v w x h =
     refl (inlaid-one (set (set d p u) (p + 1) v) (p + 2) w (simp length-set (omega arith))))
     refl (inlaid-one (set (set (set d p u) (p + 1) v) (p + 2) w) (p + 3) x (simp length-set (omega arith)))
 
--- p the front of a room
+-- at the front of a room
 pub inlaid-front : {d w d′ : List ℕ} → Inlaid d 0 w d′ → d′ ≡ front w d
 inlaid-front {d} {w} {d′} l = let e : 0 + length w ≡ length w = omega arith in l .is ∙ rw e
