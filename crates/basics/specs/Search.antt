@@ -1,6 +1,7 @@
 -- Searches over numbers, by a test. Assumes nothing.
-use mathlib.Core.Bool.{Bool, cond}
+use mathlib.Core.Bool.{Bool, cond, not}
 use Prim.Native.Nat.{ℕ, zero, suc}
+use lib.Dec.{eqb}
 
 -- the smallest number from s on that passes the test, among n of them; s + n where none does
 unfoldable pub least : (ℕ → Bool) → ℕ → ℕ → ℕ
@@ -11,3 +12,7 @@ least p (suc n) s = let later = least p n (suc s) in cond (p s) s later
 unfoldable pub greatest : (ℕ → Bool) → ℕ → ℕ
 greatest p zero = 0
 greatest p (suc n) = let lower = greatest p n in cond (p (suc n)) (suc n) lower
+
+-- the first of n entries that has a cause of refusal, being a number other than 0; n where none has
+unfoldable pub firstCaused : (ℕ → ℕ) → ℕ → ℕ
+firstCaused cause n = least (λ k. not (eqb (cause k) 0)) n 0

@@ -3,6 +3,8 @@
 pub mod Tests
 -- the least and the greatest number that passes a test
 pub mod Search
+-- causes of refusal, and the first entry that has one
+pub mod Causes
 -- equal lists, tables and stretches
 pub mod Lists
 -- rooms after a call, and while a loop fills them

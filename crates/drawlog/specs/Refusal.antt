@@ -4,7 +4,7 @@ use mathlib.Core.List.{List}
 use Prim.Native.Nat.{ℕ, zero, suc, _+_, _*_, _%_}
 use lib.Dec.{eqb, leb, ltb}
 use lib.ListN.{length}
-use Rattle.basics.specs.Search.{least}
+use Rattle.basics.specs.Search.{firstCaused}
 use Rattle.drawlog.specs.declared.Cause.{Cause}
 use Rattle.drawlog.specs.Log.{entrySize, trailerSize, longest, most, drawSize, directory, count, marked, idAt, startAt, lengthAt}
 
@@ -38,7 +38,7 @@ entryCause s k =
 
 -- the first entry that has a cause; the count where none has
 unfoldable pub firstBad : List ℕ → ℕ
-firstBad s = least (λ k. not (eqb (entryCause s k) 0)) (count s) 0
+firstBad s = firstCaused (entryCause s) (count s)
 
 -- the first cause to hold, with its entry number: 10 to 14; then the entries one after another; then the last end
 unfoldable pub causeOf : List ℕ → Cause

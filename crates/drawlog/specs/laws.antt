@@ -1,4 +1,6 @@
 -- Laws, for the proofs of this crate and for the layers above.
+-- 32-bit numbers and their bytes
+pub mod Number
 -- the log's bytes, as the code reads them
 pub mod Log
 -- the causes, and what a log without any of them is

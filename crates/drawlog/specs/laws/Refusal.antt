@@ -10,7 +10,7 @@ use borrow.Author.Tests.{eq-eqb, ne-eqb, lt-ltb, le-ltb, eqb-true, eqb-false, lt
 use lib.Dec.{leb, ltb, eqb, lit<}
 use lib.ListN.{length}
 use Rattle.basics.specs.laws.Tests.{and-true-both, equal-or-not, le-or-lt}
-use Rattle.basics.specs.laws.Search.{least-is, least-before, least-passes}
+use Rattle.basics.specs.laws.Causes.{passed, first-caused-is, first-caused-has, none-caused}
 use Rattle.drawlog.specs.declared.layout.Log.{Log}
 use Rattle.drawlog.specs.declared.Cause.{Cause}
 use Rattle.drawlog.specs.Log.{entrySize, trailerSize, longest, most, drawSize, directory, count, marked, logOf, idAt, startAt, lengthAt}
@@ -49,16 +49,10 @@ pub first-bad-is : {s : List ℕ} {t : Log} {n : ℕ} → Reaches s t n → (k :
 unfolding firstBad
 first-bad-is {s} {t} r k h none stop =
     let e : t .count ≡ count s = ap (λ (u : Log). u .count) (r .says) in
-    least-is (λ j. not (eqb (entryCause s j) 0)) (count s) 0 k (omega arith) (omega arith)
-    (λ j u v. ap not (eq-eqb (entryCause s j) 0 (none j v)))
-    (⊎-elim (λ (q : k ≡ t .count). inl (omega arith)) (λ (q : entryCause s k ≡ 0 → ⊥). inr (ap not (ne-eqb (entryCause s k) 0 q))) stop)
+    first-caused-is (entryCause s) (count s) k (omega arith) none
+    (⊎-elim (λ (q : k ≡ t .count). inl (omega arith)) (λ (q : entryCause s k ≡ 0 → ⊥). inr q) stop)
 
--- NO CAUSE: where the whole answer is 0, a test that would name a cause has failed, and the later ones answer 0
-passed : (test : Bool) (n rest : ℕ) → 0 < n → cond test n rest ≡ 0 → (test ≡ false) × (rest ≡ 0)
-passed true n rest named h = absurd (omega arith)
-passed false n rest named h = (refl, h)
-
--- a log with none of the causes 10 to 14
+-- NO CAUSE: a log with none of the causes 10 to 14
 pub record Framed (s : List ℕ) : Type 0 where
   pub long : trailerSize ≤ length s
   pub short : length s ≤ longest
@@ -138,11 +132,11 @@ pub record Accepted (s : List ℕ) : Type 0 where
 
 bad-one : (s : List ℕ) → firstBad s < count s → entryCause s (firstBad s) ≡ 0 → ⊥
 unfolding firstBad
-bad-one s l = eqb-false _ _ (not-true _ (least-passes (λ k. not (eqb (entryCause s k) 0)) (count s) 0 (omega arith)))
+bad-one s = first-caused-has (entryCause s) (count s)
 
 good-ones : (s : List ℕ) → count s ≤ firstBad s → (k : ℕ) → k < count s → entryCause s k ≡ 0
 unfolding firstBad
-good-ones s l k u = eqb-true _ _ (not-false _ (least-before (λ k. not (eqb (entryCause s k) 0)) (count s) 0 k (omega arith) (omega arith)))
+good-ones s = none-caused (entryCause s) (count s)
 
 pub accepted-is : (s : List ℕ) → causeOf s .refusal ≡ 0 → Accepted s
 accepted-is s h = ⊎-elim (λ (a : logCause s ≡ 0). framed-log a) (λ (a : logCause s ≡ 0 → ⊥). absurd (a (sym (name (cause-log s a)) ∙ h))) (equal-or-not (logCause s) 0)
@@ -175,9 +169,7 @@ pub is-accepted : (s : List ℕ) → Framed s → ((k : ℕ) → k < count s →
 unfolding firstBad
 is-accepted s f each ends =
     let none : firstBad s ≡ count s =
-    least-is (λ k. not (eqb (entryCause s k) 0)) (count s) 0 (count s) (omega arith) (omega arith)
-    (λ k u v. ap not (eq-eqb (entryCause s k) 0 (entered-none s k (each k v))))
-    (inl (omega arith)) in
+    first-caused-is (entryCause s) (count s) (count s) (omega arith) (λ k u. entered-none s k (each k u)) (inl refl) in
     record { frame = f; each = each; ends = ends; cause = cause-none s (framed-none s f) (omega arith) ends }
 
 -- HOW LARGE a cause's number and its entry can be
