@@ -6,7 +6,8 @@ use native.Mathlib.Nat.{add-zero}
 use native.Mathlib.Numerals.{add-one}
 use native.Mathlib.Omega.{arith}
 use lib.ListN.{length, take, drop, set, length-append, length-take, length-drop, length-set}
-use lib.Seq.{set-split, take-at, drop-at, drop-drop}
+use lib.Seq.{set-split, take-at, take-length, take-suc, drop-at, drop-drop}
+use Rattle.basics.specs.Lists.{at}
 use Rattle.basics.specs.Rooms.{front}
 
 -- the room d′ is the room d with the list w from place p on
@@ -55,6 +56,16 @@ inlaid-then {d} {w} {d₁} {v} {d₂} {p} {a} l e m =
       room = rw (length-append w v) (omega (arith, l .room, m .room, inlaid-length l));
       is = m .is ∙ rw (e, before-end d w d₁ p l, behind d w d₁ p l (length v), q) (simp append-assoc);
     }
+
+-- a list w, one entry after another: the first i entries lie there, and the next is stored
+pub inlaid-next : (w : List ℕ) (i : ℕ) {d d′ : List ℕ} {p : ℕ} → Inlaid d p (take i w) d′ → i < length w → p + length w ≤ length d
+    → Inlaid d p (take (i + 1) w) (set d′ (p + i) (at w i))
+inlaid-next w i {d} {d′} {p} l h room =
+    let e : p + i ≡ p + length (take i w) = rw (length-take i w) (omega arith) in
+    rw (add-one, take-suc w i 0 h) (inlaid-then l e (inlaid-one d′ (p + i) (at w i) (omega (arith, inlaid-length l))))
+
+pub inlaid-all : (w : List ℕ) (i : ℕ) {d d′ : List ℕ} {p : ℕ} → Inlaid d p (take i w) d′ → i ≡ length w → Inlaid d p w d′
+inlaid-all w i l e = rw (e, take-length) at l
 
 -- four numbers
 pub inlaid-four : (d : List ℕ) (p u v w x : ℕ) → p + 4 ≤ length d → Inlaid d p (u ∷ v ∷ w ∷ x ∷ []) (set (set (set (set d p u) (p + 1) v) (p + 2) w) (p + 3) x)

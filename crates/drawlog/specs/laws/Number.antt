@@ -26,8 +26,14 @@ whole n h = omega arith
 pub number-read : (s p q : List ℕ) (n o : ℕ) → s ≡ p ++ (bytesOf n ++ q) → length p ≡ o → n < 4294967296 → number s o ≡ n
 unfolding number bytesOf
 number-read s p q n o e l h =
-    rw (e, ← l, getD-append-seam p (n % 256) (n / 256 % 256 ∷ n / 256 / 256 % 256 ∷ n / 256 / 256 / 256 % 256 ∷ q) 0,
-    getD-append-add p (bytesOf n ++ q) 1 0, getD-append-add p (bytesOf n ++ q) 2 0, getD-append-add p (bytesOf n ++ q) 3 0)
+    rw (
+      e,
+      ← l,
+      getD-append-seam p (n % 256) (n / 256 % 256 ∷ n / 256 / 256 % 256 ∷ n / 256 / 256 / 256 % 256 ∷ q) 0,
+      getD-append-add p (bytesOf n ++ q) 1 0,
+      getD-append-add p (bytesOf n ++ q) 2 0,
+      getD-append-add p (bytesOf n ++ q) 3 0,
+    )
     (whole n h)
 
 -- THE BYTES OF A NUMBER THAT WAS READ
@@ -47,12 +53,22 @@ pub bytes-read : (s : List ℕ) → Bytes s → (o : ℕ) → o + 4 ≤ length s
 unfolding bytesOf number
 bytes-read s small o h =
     let a = at s o in let b = at s (o + 1) in let c = at s (o + 2) in let d = at s (o + 3) in
-    rw (low a (b + 256 * (c + 256 * d)) (small o), rest a (b + 256 * (c + 256 * d)) (small o),
-    low b (c + 256 * d) (small (o + 1)), rest b (c + 256 * d) (small (o + 1)),
-    low c d (small (o + 2)), rest c d (small (o + 2)), last d (small (o + 3)))
+    rw (
+      low a (b + 256 * (c + 256 * d)) (small o),
+      rest a (b + 256 * (c + 256 * d)) (small o),
+      low b (c + 256 * d) (small (o + 1)),
+      rest b (c + 256 * d) (small (o + 1)),
+      low c d (small (o + 2)),
+      rest c d (small (o + 2)),
+      last d (small (o + 3)),
+    )
     (sym four)
   where
     four : take 4 (drop o s) ≡ at s o ∷ at s (o + 1) ∷ at s (o + 2) ∷ at s (o + 3) ∷ []
     four =
-        rw (next s o (o + 1) refl (omega arith), next s (o + 1) (o + 2) (omega arith) (omega arith),
-        next s (o + 2) (o + 3) (omega arith) (omega arith), next s (o + 3) (o + 4) (omega arith) (omega arith))
+        rw (
+          next s o (o + 1) refl (omega arith),
+          next s (o + 1) (o + 2) (omega arith) (omega arith),
+          next s (o + 2) (o + 3) (omega arith) (omega arith),
+          next s (o + 3) (o + 4) (omega arith) (omega arith),
+        )
