@@ -3,6 +3,6 @@
 //
 // Each promise is that of the library's call, said of the struct that C sees.
 pub mod checks; // checks.rt: the overlap check
-pub mod logs; // logs.rt: the log test and the lookup
+pub mod logs; // logs.rt: the log test, the lookup and the writer
 pub mod probes; // probes.rt: the tables of a probe
 pub mod searches; // searches.rt: the two scans

@@ -1,7 +1,8 @@
-// The log test and the lookup, for C.
+// The log test, the lookup and the writer, for C.
 ghost use mathlib.Core.Path.{_≡_};
 ghost use Rattle.drawlog.specs.Promise.{testedOf, foundOf};
-ghost use Rattle.capi.specs.Seen.{testedSeen, foundSeen};
+ghost use Rattle.writer.specs.Promise.{Writing};
+ghost use Rattle.capi.specs.Seen.{testedSeen, foundSeen, writtenSeen};
 
 // nahui_tested
 #[repr(C)]
@@ -17,6 +18,14 @@ pub struct Found {
     pub refusal: u32,
     pub entry: u32,
     pub start: u32,
+    pub length: u32,
+}
+
+// nahui_written
+#[repr(C)]
+pub struct Written {
+    pub refusal: u32,
+    pub entry: u32,
     pub length: u32,
 }
 
@@ -42,5 +51,22 @@ pub extern "C" fn nahui_log_find(log: &[u8], id: u32) -> Found
         entry: found.entry,
         start: found.start,
         length: found.length,
+    }
+}
+
+#[no_mangle]
+pub extern "C" fn nahui_log_write(
+    blocks: &[u8],
+    ids: &[u32],
+    lengths: &[u32],
+    room: &mut [u8],
+) -> Written
+    ensures { λ r. ⌜ Writing (now (blocks .entry)) (now (ids .entry)) (now (lengths .entry)) (now (room .entry)) (writtenSeen r) (now (room .exit)) ⌝ }
+{
+    let written = writer::write(blocks, ids, lengths, room);
+    Written {
+        refusal: written.refusal,
+        entry: written.entry,
+        length: written.length,
     }
 }

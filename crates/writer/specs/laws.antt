@@ -5,5 +5,9 @@ pub mod Made
 pub mod Refusal
 -- parts put one after another
 pub mod Put
+-- what is read in a log that was made
+pub mod Reading
+-- an accepted log, taken apart and made again
+pub mod Remaking
 -- the promise, by its cases
 pub mod Promise

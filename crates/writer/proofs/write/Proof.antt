@@ -1,6 +1,6 @@
 -- `write` meets its contract: a cause refuses and nothing is touched, or the inputs fit and the log is put at the front.
 -- Assumes nothing.
-use mathlib.Core.Path.{_≡_, sym, ap, _∙_}
+use mathlib.Core.Path.{sym, ap, _∙_}
 use borrow.Author.Needs.{needs}
 use native.Mathlib.Omega.{arith}
 use lib.ListN.{length}

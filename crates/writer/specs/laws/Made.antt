@@ -1,12 +1,12 @@
 -- Laws of the log that is made: how long its parts are, and sums of lengths. Assumes nothing.
 use mathlib.Core.Path.{_≡_, refl}
 use mathlib.Core.List.{List, _++_}
-use Prim.Native.Nat.{ℕ, zero, suc, _+_, _-_, _*_, _≤_}
+use Prim.Native.Nat.{ℕ, zero, suc, _+_, _-_, _*_, _≤_, _<_}
 use native.Mathlib.Numerals.{add-one}
 use native.Mathlib.Omega.{arith}
 use lib.ListN.{length, length-append}
 use Rattle.basics.specs.Lists.{at}
-use Rattle.drawlog.specs.Log.{entrySize, trailerSize, mark}
+use Rattle.drawlog.specs.Log.{entrySize, trailerSize}
 use Rattle.drawlog.specs.Number.{bytesOf}
 use Rattle.drawlog.specs.laws.Number.{length-bytes}
 use Rattle.writer.specs.Made.{sumTo, entryBytes, directoryBytes, trailerBytes, made, sizeOf}
@@ -46,5 +46,5 @@ pub sum-le : (ns : List ℕ) (k n : ℕ) → k ≤ n → sumTo ns k ≤ sumTo ns
 sum-le ns k n h = let e : k + (n - k) ≡ n = omega arith in rw e at (sum-up ns k (n - k))
 
 -- block k ends within the sum of all
-pub block-le : (ns : List ℕ) (k n : ℕ) → k + 1 ≤ n → sumTo ns k + at ns k ≤ sumTo ns n
-block-le ns k n h = rw (sum-next ns k) at (sum-le ns (k + 1) n h)
+pub block-le : (ns : List ℕ) (k n : ℕ) → k < n → sumTo ns k + at ns k ≤ sumTo ns n
+block-le ns k n h = rw (sum-next ns k) at (sum-le ns (k + 1) n (omega arith))

@@ -2,11 +2,11 @@
 use mathlib.Core.Path.{_≡_, refl, sym, ap, _∙_}
 use mathlib.Core.Logic.{⊎-elim}
 use mathlib.Core.List.{List}
-use Prim.Native.Nat.{ℕ, zero, suc, _+_, _≤_}
+use Prim.Native.Nat.{ℕ, zero, suc, _≤_}
 use native.Mathlib.Omega.{arith}
 use lib.ListN.{length, take, drop}
 use lib.Seq.{take-at}
-use Rattle.basics.specs.Rooms.{roomAfter}
+use Rattle.basics.specs.Rooms.{front, roomAfter}
 use Rattle.basics.specs.laws.Tests.{equal-or-not}
 use Rattle.basics.specs.laws.Inlaid.{inlaid-front}
 use Rattle.basics.specs.laws.Rooms.{room-kept}
@@ -73,3 +73,11 @@ module _ {b is ns d d′ : List ℕ} {r : Written} (w : Writing b is ns d r d′
       (λ (z : r .refusal ≡ 0). omega (arith, written-length z, length-made b is ns, written-fit z .held))
       (λ (z : r .refusal ≡ 0 → ⊥). omega (arith, ap (λ (a : Written). a .length) (w .answer ∙ written-no _ (cause b is ns d .entry) (length (made b is ns)) (λ q. z (told ∙ q)))))
       (equal-or-not (r .refusal) 0)
+
+  -- inputs that fit are not refused
+  pub written-done : Fit b is ns (length d) → (r ≡ record { refusal = 0; entry = 0; length = length (made b is ns) }) × (d′ ≡ front (made b is ns) d)
+  written-done f =
+      let z : r .refusal ≡ 0 = told ∙ ap (λ (c : Cause). c .refusal) (is-fit f) in (
+        w .answer ∙ ap (λ (c : Cause). writtenOf (c .refusal) (c .entry) (length (made b is ns))) (is-fit f) ∙ written-yes 0 (length (made b is ns)),
+        w .room ∙ ap (λ (n : ℕ). roomAfter n (made b is ns) d) z,
+      )

@@ -1,7 +1,7 @@
 -- Laws of the writer's causes: how each is tested, and that there is none exactly where the inputs fit. Assumes nothing.
 use mathlib.Core.Path.{_≡_, refl, sym, ap, _∙_}
-use mathlib.Core.Logic.{_⊎_, inl, inr, ⊎-elim}
-use mathlib.Core.Bool.{Bool, true, false}
+use mathlib.Core.Logic.{_⊎_, inl, ⊎-elim}
+use mathlib.Core.Bool.{true}
 use mathlib.Core.List.{List}
 use Prim.Native.Nat.{ℕ, zero, suc, _-_, _%_, _≤_, _<_}
 use native.Mathlib.Numerals.{unary-clauses}

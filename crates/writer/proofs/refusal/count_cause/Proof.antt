@@ -1,6 +1,5 @@
 -- `refusal::count_cause` meets its contract: at each exit the tests before have failed, and its own holds.
 -- Assumes nothing.
-use mathlib.Core.Path.{_≡_}
 use Prim.Native.Nat.{_≤_, _<_}
 use native.Mathlib.Omega.{arith}
 use borrow.Author.Tests.{eq-eqb, ne-eqb, le-leb, lt-leb}

@@ -1,8 +1,6 @@
 -- `refusal::first` meets its contract: 31 and 13, then the causes of the first bad entry, then those of the sizes.
 -- Assumes nothing.
 use mathlib.Core.Path.{_≡_, sym, _∙_}
-use mathlib.Core.List.{List}
-use Prim.Native.Nat.{_≤_, _<_}
 use native.Mathlib.Omega.{arith}
 use denote.Ref.{now}
 use Rattle.writer.specs.Refusal.{countCause}
