@@ -1,10 +1,11 @@
 /*
- * Nahuitepol: exact search for a probe in a stream, and the overlap check of draw logs.
+ * Nahuitepol: exact search for a probe in a stream, and draw logs, written and checked for overlaps.
  *
  * A lent array is a pointer and the count of its elements (not of its bytes). The pointer may be NULL where
  * the count is 0. A const array is read only. A "room" is an array that the call may write to: work rooms,
- * position rooms and result rooms all hold 32-bit numbers. A room may be longer than needed; what a call does
- * not promise to write stays as it was, and what a room holds before the call does not matter.
+ * position rooms and result rooms all hold 32-bit numbers, the writer's output room holds bytes. A room may be
+ * longer than needed; what a call does not promise to write stays as it was, and what a room holds before the
+ * call does not matter.
  *
  * THE CALLER'S ONE DUTY, beyond lending as many elements as each count says: lent rooms overlap neither each
  * other nor the inputs. With that kept, every input gets an answer.
@@ -19,20 +20,24 @@
  *    4   a work room has fewer entries than the probe has bytes (in the check: fewer than 8p)
  *    5   result room of the check below 4 * c * (c - 1) numbers, for c replicates
  *   10   log under 12 bytes
- *   11   log over 65,536 bytes
+ *   11   log over 65,536 bytes (in the writer: it would be)
  *   12   mark wrong
- *   13   directory count not 1 to 64
+ *   13   directory count not 1 to 64 (in the writer: the number of ids)
  *   14   directory start + 12 * count + 12 differs from the log's length
  *   15   id not above the one before
  *   16   block not where the previous one ended (the first: not at byte 0), or last end not the directory start
  *   17   block length no multiple of 8
  *   18   no replicate with this id
  *   20   p not 1 to 512
+ *   22   number of block bytes differs from the sum of the lengths
+ *   23   output room shorter than the log
+ *   31   ids and lengths differ in number
  *
  * Where several causes hold, the number is that of the first in the order in which they are tested:
  *   tables and searches   1, 2, 3, 4
  *   log test              10, 11, 12, 13, 14; then each entry in turn for 15, 16, 17; then the last end (16)
  *   lookup                the log test, then 18
+ *   writer                31, 13; then each entry in turn for 15, 17; then 22, 11, 23
  *   check                 the log test, then 20, 4, 5
  * 15, 16 and 17 carry the number of their entry, from 0; a wrong last end is 16 and carries the count. All
  * other refusals carry entry 0.
@@ -79,6 +84,13 @@ typedef struct {
     uint32_t start;  /* first byte of the block, from the log's start */
     uint32_t length; /* in bytes; may be 0 */
 } nahui_found;
+
+/* The answer of the writer. */
+typedef struct {
+    uint32_t refusal;
+    uint32_t entry;
+    uint32_t length; /* bytes of the log, from the front of the output room on */
+} nahui_written;
 
 /* The answer of the overlap check. */
 typedef struct {
@@ -153,6 +165,21 @@ nahui_tested nahui_log_test(const uint8_t *log, size_t log_len);
 
 /* Looks up the block of the replicate with this id. The refusal is 0 or 10 to 18. */
 nahui_found nahui_log_find(const uint8_t *log, size_t log_len, uint32_t id);
+
+/*
+ * Writes a log: to the front of out the blocks, then the directory and the trailer that fit them. The log test
+ * accepts it, and the lookup finds each id with its block. Entry k has id ids[k] and the next lengths[k] bytes
+ * of blocks. The refusal is 0, 31, 13, 15, 17, 22, 11 or 23.
+ *
+ *   blocks         the bytes of all blocks, back to back, as many as the lengths say together
+ *   ids, lengths   1 to 64 each and as many of one as of the other; ids rise strictly, and lengths, in bytes,
+ *                  are multiples of 8 and may be 0
+ *   out            at least blocks_len + 12 * ids_len + 12 bytes; those beyond the log stay as they were
+ */
+nahui_written nahui_log_write(const uint8_t *blocks, size_t blocks_len,
+                              const uint32_t *ids, size_t ids_len,
+                              const uint32_t *lengths, size_t lengths_len,
+                              uint8_t *out, size_t out_len);
 
 /*
  * The overlap check. The probe of owner a is the first p draws (8p bytes) of its block, p from 1 to 512; an

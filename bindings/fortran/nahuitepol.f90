@@ -1,4 +1,4 @@
-!> Nahuitepol for Fortran: exact search for a probe in a stream, and the overlap check of draw logs.
+!> Nahuitepol for Fortran: exact search for a probe in a stream, and draw logs, written and checked for overlaps.
 !>
 !> The functions are those of include/nahuitepol.h, which says what each one promises; an array goes as it is,
 !> and its count is taken from its size. Arrays may have size 0. Rooms must overlap neither each other nor the
@@ -13,15 +13,18 @@
 !>    4  a work room has fewer entries than the probe has bytes (in the check: fewer than 8p)
 !>    5  result room of the check below 4 c (c - 1) numbers, for c replicates
 !>   10  log under 12 bytes
-!>   11  log over 65,536 bytes
+!>   11  log over 65,536 bytes (in the writer: it would be)
 !>   12  mark wrong
-!>   13  directory count not 1 to 64
+!>   13  directory count not 1 to 64 (in the writer: the number of ids)
 !>   14  directory start + 12 count + 12 differs from the log's length
 !>   15  id not above the one before
 !>   16  block not where the previous one ended (the first: not at byte 0), or last end not the directory start
 !>   17  block length no multiple of 8
 !>   18  no replicate with this id
 !>   20  p not 1 to 512
+!>   22  number of block bytes differs from the sum of the lengths
+!>   23  output room shorter than the log
+!>   31  ids and lengths differ in number
 !>
 !> Positions, offsets, entries and table indices count from 0, as in C. Fortran has no unsigned integers: an id
 !> from 2**31 on comes as a negative number, and nahui_unsigned gives its value.
@@ -32,7 +35,7 @@ module nahuitepol
 
   public :: nahui_suffix, nahui_shift, nahui_occurrence
   public :: nahui_plain, nahui_remember
-  public :: nahui_log_test, nahui_log_find
+  public :: nahui_log_test, nahui_log_find, nahui_log_write
   public :: nahui_check
   public :: nahui_unsigned
 
@@ -57,6 +60,11 @@ module nahuitepol
   type, public, bind(c) :: nahui_found
     integer(c_int32_t) :: refusal, entry, start, length
   end type nahui_found
+
+  !> The answer of the writer: the bytes of the log, from the front of the output room on.
+  type, public, bind(c) :: nahui_written
+    integer(c_int32_t) :: refusal, entry, length
+  end type nahui_written
 
   !> The answer of the overlap check: overlapping pairs, and owners whose block is too short to probe.
   type, public, bind(c) :: nahui_checked
@@ -119,6 +127,16 @@ module nahuitepol
       integer(c_int32_t), value :: id
       type(nahui_found) :: answer
     end function c_log_find
+
+    function c_log_write(blocks, blocks_len, ids, ids_len, lengths, lengths_len, out, out_len) &
+        result(answer) bind(c, name='nahui_log_write')
+      import :: c_int8_t, c_int32_t, c_size_t, nahui_written
+      integer(c_int8_t), intent(in) :: blocks(*)
+      integer(c_size_t), value :: blocks_len, ids_len, lengths_len, out_len
+      integer(c_int32_t), intent(in) :: ids(*), lengths(*)
+      integer(c_int8_t), intent(inout) :: out(*)
+      type(nahui_written) :: answer
+    end function c_log_write
 
     function c_check(log, log_len, p, suffix, suffix_len, shift, shift_len, memory, memory_len, &
         result_room, result_len) result(answer) bind(c, name='nahui_check')
@@ -199,6 +217,20 @@ contains
 
     answer = c_log_find(log, size(log, kind=c_size_t), id)
   end function nahui_log_find
+
+  !> Writes a log to the front of the output room: the blocks, all bytes of which are lent back to back, then the
+  !> directory and the trailer that fit them. Entry k has id ids(k) and the next lengths(k) bytes; the ids rise
+  !> strictly, as numbers without a sign. The room needs size(blocks) + 12 size(ids) + 12 bytes. The refusal is
+  !> 0, 31, 13, 15, 17, 22, 11 or 23.
+  function nahui_log_write(blocks, ids, lengths, out) result(answer)
+    integer(c_int8_t), intent(in), contiguous :: blocks(:)
+    integer(c_int32_t), intent(in), contiguous :: ids(:), lengths(:)
+    integer(c_int8_t), intent(inout), contiguous :: out(:)
+    type(nahui_written) :: answer
+
+    answer = c_log_write(blocks, size(blocks, kind=c_size_t), ids, size(ids, kind=c_size_t), &
+        lengths, size(lengths, kind=c_size_t), out, size(out, kind=c_size_t))
+  end function nahui_log_write
 
   !> Searches every block of the log for the first p draws (8p bytes) of every other one. The three work rooms
   !> need 8p entries each; the result room needs 4 c (c - 1) numbers for c replicates and takes four for each

@@ -1,4 +1,4 @@
-//! Nahuitepol for Rust: exact search for a probe in a stream, and the overlap check of draw logs.
+//! Nahuitepol for Rust: exact search for a probe in a stream, and draw logs, written and checked for overlaps.
 //!
 //! A safe face over the C interface: slices in, structs of plain numbers out. The borrows see to the caller's
 //! one duty there, that lent rooms do not overlap.
@@ -14,15 +14,18 @@
 //! | 4 | a work room has fewer entries than the probe has bytes (in the check: fewer than 8p) |
 //! | 5 | result room of the check below 4·c·(c − 1) numbers, c replicates |
 //! | 10 | log under 12 bytes |
-//! | 11 | log over 65,536 bytes |
+//! | 11 | log over 65,536 bytes (in the writer: it would be) |
 //! | 12 | mark wrong |
-//! | 13 | directory count not 1 to 64 |
+//! | 13 | directory count not 1 to 64 (in the writer: the number of ids) |
 //! | 14 | directory start + 12·count + 12 differs from the log's length |
 //! | 15 | id not above the one before |
 //! | 16 | block not where the previous one ended (the first: not at byte 0), or last end not the directory start |
 //! | 17 | block length no multiple of 8 |
 //! | 18 | no replicate with this id |
 //! | 20 | p not 1 to 512 |
+//! | 22 | number of block bytes differs from the sum of the lengths |
+//! | 23 | output room shorter than the log |
+//! | 31 | ids and lengths differ in number |
 //!
 //! Rooms may be longer than needed, and may hold anything before the call.
 //!
@@ -84,6 +87,17 @@ pub struct Found {
     /// First byte of the block, from the log's start.
     pub start: u32,
     /// Length in bytes; may be 0.
+    pub length: u32,
+}
+
+/// The answer of the writer.
+#[repr(C)]
+#[derive(Debug, Clone, Copy, PartialEq, Eq)]
+pub struct Written {
+    pub refusal: u32,
+    /// The entry that 15 or 17 was given for.
+    pub entry: u32,
+    /// Bytes of the log, from the front of the output room on.
     pub length: u32,
 }
 
@@ -250,6 +264,38 @@ pub fn log_test(log: &[u8]) -> Tested {
 pub fn log_find(log: &[u8], id: u32) -> Found {
     // SAFETY: pointer and count are those of a live slice.
     unsafe { raw::nahui_log_find(log.as_ptr(), log.len(), id) }
+}
+
+/// Writes a log to the front of the output room: the blocks, then the directory and the trailer that fit them.
+/// The refusal is 0, 31, 13, 15, 17, 22, 11 or 23.
+///
+/// The bytes of all blocks are lent back to back; entry k has id `ids[k]` and the next `lengths[k]` bytes. The
+/// room needs 12 bytes for each entry and 12 more besides the blocks; bytes beyond the log stay as they were.
+///
+/// ```
+/// // Replicate 5 has one draw, replicate 6 has none.
+/// let mut out = [9; 50];
+/// let answer = nahuitepol::log_write(&[1, 2, 3, 4, 5, 6, 7, 8], &[5, 6], &[8, 0], &mut out);
+/// assert_eq!((answer.refusal, answer.length), (0, 44));
+/// assert_eq!(nahuitepol::log_test(&out[..44]).count, 2);
+/// assert_eq!(nahuitepol::log_find(&out[..44], 5).length, 8);
+/// assert_eq!(out[44..], [9; 6]);
+/// ```
+#[inline]
+pub fn log_write(blocks: &[u8], ids: &[u32], lengths: &[u32], out: &mut [u8]) -> Written {
+    // SAFETY: as in `plain`.
+    unsafe {
+        raw::nahui_log_write(
+            blocks.as_ptr(),
+            blocks.len(),
+            ids.as_ptr(),
+            ids.len(),
+            lengths.as_ptr(),
+            lengths.len(),
+            out.as_mut_ptr(),
+            out.len(),
+        )
+    }
 }
 
 /// Searches every block of the log for the first p draws (8p bytes) of every other one. The refusal is 0,

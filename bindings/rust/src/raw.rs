@@ -1,6 +1,6 @@
 //! The C interface as include/nahuitepol.h declares it.
 
-use crate::{Checked, Found, Occurrences, Searched, Tested};
+use crate::{Checked, Found, Occurrences, Searched, Tested, Written};
 
 extern "C" {
     pub fn nahui_suffix(probe: *const u8, probe_len: usize, room: *mut u32, room_len: usize) -> u32;
@@ -40,6 +40,17 @@ extern "C" {
     pub fn nahui_log_test(log: *const u8, log_len: usize) -> Tested;
 
     pub fn nahui_log_find(log: *const u8, log_len: usize, id: u32) -> Found;
+
+    pub fn nahui_log_write(
+        blocks: *const u8,
+        blocks_len: usize,
+        ids: *const u32,
+        ids_len: usize,
+        lengths: *const u32,
+        lengths_len: usize,
+        out: *mut u8,
+        out_len: usize,
+    ) -> Written;
 
     pub fn nahui_check(
         log: *const u8,
