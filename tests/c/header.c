@@ -14,6 +14,9 @@ static_assert(offsetof(nahui_searched, occurrences) == 8, "searched");
 static_assert(offsetof(nahui_searched, comparisons) == 32, "searched");
 static_assert(sizeof(nahui_tested) == 12, "tested");
 static_assert(sizeof(nahui_found) == 16, "found");
+static_assert(sizeof(nahui_written) == 12, "written");
+static_assert(offsetof(nahui_written, entry) == 4, "written");
+static_assert(offsetof(nahui_written, length) == 8, "written");
 static_assert(sizeof(nahui_checked) == 16, "checked");
 
 int main(void)

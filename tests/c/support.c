@@ -46,7 +46,7 @@ int status(void)
 
 typedef struct {
     void *start;  /* of the pages or of the heap block */
-    size_t pages; /* their length in bytes, with the closed page */
+    size_t pages; /* their length in bytes, with the closed page; 0 for a heap block */
     size_t array; /* where the array begins */
 } lent;
 
@@ -59,11 +59,27 @@ static void give_up(const char *problem)
     exit(EXIT_FAILURE);
 }
 
+static void *map(size_t size, int flags)
+{
+    void *start = mmap(NULL, size, PROT_READ | PROT_WRITE, MAP_PRIVATE | MAP_ANONYMOUS | flags, -1, 0);
+    if (start == MAP_FAILED)
+        give_up("no memory");
+    return start;
+}
+
+static void give_back(lent one)
+{
+    if (one.pages > 0)
+        munmap(one.start, one.pages);
+    else
+        free(one.start);
+}
+
 #ifdef __SANITIZE_ADDRESS__
 
 static lent lend(size_t size)
 {
-    lent one = {malloc(size), size, 0};
+    lent one = {malloc(size), 0, 0};
     if (one.start == NULL && size > 0)
         give_up("no memory");
     return one;
@@ -74,20 +90,15 @@ static void close_to_writing(lent one)
     (void)one; /* the heap has no such protection */
 }
 
-static void give_back(lent one)
-{
-    free(one.start);
-}
-
 #else
 
 static lent lend(size_t size)
 {
     size_t page = (size_t)sysconf(_SC_PAGESIZE);
     size_t open = (size + page - 1) / page * page;
-    void *start = mmap(NULL, open + page, PROT_READ | PROT_WRITE, MAP_PRIVATE | MAP_ANONYMOUS, -1, 0);
-    if (start == MAP_FAILED || mprotect((char *)start + open, page, PROT_NONE) != 0)
-        give_up("no memory");
+    void *start = map(open + page, 0);
+    if (mprotect((char *)start + open, page, PROT_NONE) != 0)
+        give_up("no protection");
     return (lent){start, open + page, open - size};
 }
 
@@ -96,11 +107,6 @@ static void close_to_writing(lent one)
     size_t page = (size_t)sysconf(_SC_PAGESIZE);
     if (one.pages > page && mprotect(one.start, one.pages - page, PROT_READ) != 0)
         give_up("no protection");
-}
-
-static void give_back(lent one)
-{
-    munmap(one.start, one.pages);
 }
 
 #endif
@@ -128,6 +134,15 @@ uint32_t *room(size_t length)
     return numbers;
 }
 
+uint8_t *byte_room(size_t length)
+{
+    lent one = note(lend(length));
+    uint8_t *list = (uint8_t *)one.start + one.array;
+    for (size_t k = 0; k < length; k++)
+        list[k] = UNTOUCHED_BYTE;
+    return list;
+}
+
 const uint8_t *bytes(const void *content, size_t length)
 {
     lent one = note(lend(length));
@@ -138,10 +153,28 @@ const uint8_t *bytes(const void *content, size_t length)
     return copy;
 }
 
+const uint32_t *numbers(const uint32_t *content, size_t length)
+{
+    return (const uint32_t *)(const void *)bytes(content, length * sizeof(uint32_t));
+}
+
+void *vast(size_t size)
+{
+    return note((lent){map(size, MAP_NORESERVE), size, 0}).start;
+}
+
 bool holds_just(const uint32_t *room, size_t length, const uint32_t *front, size_t front_length)
 {
     for (size_t k = 0; k < length; k++)
         if (room[k] != (k < front_length ? front[k] : UNTOUCHED))
+            return false;
+    return front_length <= length;
+}
+
+bool bytes_hold_just(const uint8_t *room, size_t length, const uint8_t *front, size_t front_length)
+{
+    for (size_t k = 0; k < length; k++)
+        if (room[k] != (k < front_length ? front[k] : UNTOUCHED_BYTE))
             return false;
     return front_length <= length;
 }

@@ -11,6 +11,9 @@
 /* What a lent room holds before the call: no number that a call writes. */
 #define UNTOUCHED 0xA5A5A5A5u
 
+/* The same for a room of bytes; the tests write no such byte. */
+#define UNTOUCHED_BYTE 0xA5u
+
 /* Notes the first condition of a case that does not hold. */
 #define EXPECT(condition) expect((condition), #condition)
 
@@ -30,14 +33,26 @@ int status(void);
 /* A room of untouched numbers. */
 uint32_t *room(size_t length);
 
+/* A room of untouched bytes. */
+uint8_t *byte_room(size_t length);
+
 /* A copy of these bytes, which may be read only. */
 const uint8_t *bytes(const void *content, size_t length);
+
+/* A copy of these numbers, which may be read only. */
+const uint32_t *numbers(const uint32_t *content, size_t length);
+
+/* This many bytes of zeros, and be it some thousand millions: only those that are written take memory. */
+void *vast(size_t size);
 
 /* Gives all arrays of the case back, for a case that takes many in turn. */
 void give_arrays_back(void);
 
 /* True where the room begins with the expected numbers, and all others are untouched. */
 bool holds_just(const uint32_t *room, size_t length, const uint32_t *front, size_t front_length);
+
+/* The same for a room of bytes. */
+bool bytes_hold_just(const uint8_t *room, size_t length, const uint8_t *front, size_t front_length);
 
 /* True where nothing was written. */
 bool untouched(const uint32_t *room, size_t length);

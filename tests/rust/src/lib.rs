@@ -1,16 +1,18 @@
-//! An independent implementation of document 01, for the tests to compare the library with.
+//! An independent implementation of document 01, and of what document 02 adds, for the tests to compare the
+//! library with.
 //!
-//! It is written from the document's words alone and takes the slow and plain way everywhere: tables by their
+//! It is written from the documents' words alone and takes the slow and plain way everywhere: tables by their
 //! definitions, search at every position, scans by their steps with a memory over the whole stream. It knows
 //! nothing of the library; only the files in tests/ do.
 //!
-//! | Module | Document 01 |
+//! | Module | Documents 01 and 02 |
 //! |---|---|
 //! | [`tables`] | Tables of a probe |
 //! | [`scans`] | The two scans |
 //! | [`log`] | Draw log |
 //! | [`check`] | Overlap check |
 //! | [`listing`] | Overlap check: what `overlap` prints |
+//! | [`writer`] | Request One: the writer of logs |
 //!
 //! [`words`] makes probes and streams, [`samples`] sound and damaged logs, [`rooms`] rooms that show every write.
 
@@ -22,3 +24,4 @@ pub mod samples;
 pub mod scans;
 pub mod tables;
 pub mod words;
+pub mod writer;

@@ -7,7 +7,7 @@ pub const MARK: [u8; 4] = [0x44, 0x52, 0x41, 0x57];
 
 const ENTRY_SIZE: usize = 12;
 const TRAILER_SIZE: usize = 12;
-const DRAW_SIZE: u32 = 8;
+pub(crate) const DRAW_SIZE: u32 = 8;
 
 /// A refusal's number, and the entry number that it carries.
 #[derive(Debug, Clone, Copy, PartialEq, Eq)]

@@ -1,15 +1,16 @@
 //! Rooms that show every write: a room lies inside a larger array, and the whole array is filled with numbers
-//! that no call writes, another one at each place.
+//! that no call writes, another one at each place. No byte is one that no call writes; so two rooms of bytes
+//! differ at every place, and what leaves one of them as it was shows in the other.
 
 const MARGIN: usize = 4;
 
-/// A room of 32-bit numbers to lend.
+/// A room to lend, of 32-bit numbers where nothing else is said.
 #[derive(Clone)]
-pub struct Room {
+pub struct Room<T = u32> {
     /// Margin, room, margin.
-    array: Vec<u32>,
+    array: Vec<T>,
     /// The array as it was made.
-    before: Vec<u32>,
+    before: Vec<T>,
 }
 
 impl Room {
@@ -24,13 +25,24 @@ impl Room {
         array[MARGIN..MARGIN + numbers.len()].copy_from_slice(numbers);
         Room::made(array)
     }
+}
 
-    fn made(array: Vec<u32>) -> Room {
+impl Room<u8> {
+    /// Two rooms of bytes of this length, different at every place.
+    pub fn pair_of_bytes(length: usize) -> [Room<u8>; 2] {
+        let bytes =
+            |flip: u32| (0..length + 2 * MARGIN).map(|place| ((canary(place) ^ flip) >> 8) as u8).collect();
+        [Room::made(bytes(0)), Room::made(bytes(u32::MAX))]
+    }
+}
+
+impl<T: Copy + PartialEq> Room<T> {
+    fn made(array: Vec<T>) -> Room<T> {
         Room { before: array.clone(), array }
     }
 
     /// The room itself, for a call.
-    pub fn lend(&mut self) -> &mut [u32] {
+    pub fn lend(&mut self) -> &mut [T] {
         let end = self.array.len() - MARGIN;
         &mut self.array[MARGIN..end]
     }
@@ -40,7 +52,7 @@ impl Room {
     }
 
     /// True where the room begins with these numbers, and everything else, inside and outside, is as it was.
-    pub fn holds_just(&self, front: &[u32]) -> bool {
+    pub fn holds_just(&self, front: &[T]) -> bool {
         let end = MARGIN + front.len();
         self.array[..MARGIN] == self.before[..MARGIN]
             && self.array[MARGIN..end] == *front
