@@ -42,7 +42,7 @@ const uint8_t *bytes(const void *content, size_t length);
 /* A copy of these numbers, which may be read only. */
 const uint32_t *numbers(const uint32_t *content, size_t length);
 
-/* This many bytes of zeros, and be it some thousand millions: only those that are written take memory. */
+/* This many bytes of zeros, even more than there is memory for: only what is touched takes any. */
 void *vast(size_t size);
 
 /* Gives all arrays of the case back, for a case that takes many in turn. */

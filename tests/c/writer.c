@@ -78,6 +78,34 @@ static void a_log_without_a_draw(void)
     EXPECT(bytes_hold_just(out, sizeof expected, expected, sizeof expected));
 }
 
+/* Writes a log with ids from 0 on, and zeros for draws, to a room that it just fills; and reads it again. */
+static void expect_log(size_t count, uint32_t first_length, uint32_t other_length)
+{
+    uint32_t ids[64] = {0}, lengths[64] = {first_length};
+    size_t sum = first_length;
+    for (uint32_t k = 1; k < count; k++) {
+        ids[k] = k;
+        lengths[k] = other_length;
+        sum += other_length;
+    }
+    size_t length = sum + 12 * count + 12;
+    uint8_t *log = byte_room(length);
+    nahui_written answer = nahui_log_write(bytes(vast(sum), sum), sum, numbers(ids, count), count,
+                                           numbers(lengths, count), count, log, length);
+    EXPECT(writes(answer, (uint32_t)length));
+    EXPECT(memcmp(log, vast(sum), sum) == 0);
+    EXPECT(nahui_log_test(log, length).count == count);
+    EXPECT(nahui_log_find(log, length, (uint32_t)count - 1).start == sum - lengths[count - 1]);
+    give_arrays_back();
+}
+
+static void the_greatest_logs(void)
+{
+    expect_log(1, 65512, 0); /* 65,536 bytes */
+    expect_log(64, 1248, 1008); /* 65,532 bytes: 8 more are too many */
+    expect_log(63, 64768, 0); /* 65,536 bytes */
+}
+
 static void nothing_at_all(void)
 {
     const uint32_t number = 0;
@@ -155,6 +183,7 @@ int main(void)
     run("document 01's log from its contents", the_document_log);
     run("a written log is read again", a_written_log_is_read_again);
     run("a log without a draw", a_log_without_a_draw);
+    run("the greatest logs", the_greatest_logs);
     run("nothing at all is refused 13", nothing_at_all);
     run("every shorter room is refused 23", short_rooms);
     run("each refusal of the writer", each_refusal);

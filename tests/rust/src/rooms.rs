@@ -1,6 +1,6 @@
 //! Rooms that show every write: a room lies inside a larger array, and the whole array is filled with numbers
-//! that no call writes, another one at each place. No byte is one that no call writes; so two rooms of bytes
-//! differ at every place, and what leaves one of them as it was shows in the other.
+//! that no call writes, another one at each place. There is no such byte; so rooms of bytes come in pairs that
+//! differ at every place, and a write that one of them hides shows in the other.
 
 const MARGIN: usize = 4;
 
@@ -28,7 +28,7 @@ impl Room {
 }
 
 impl Room<u8> {
-    /// Two rooms of bytes of this length, different at every place.
+    /// Two rooms of this length that hold different bytes at every place.
     pub fn pair_of_bytes(length: usize) -> [Room<u8>; 2] {
         let bytes =
             |flip: u32| (0..length + 2 * MARGIN).map(|place| ((canary(place) ^ flip) >> 8) as u8).collect();
