@@ -21,6 +21,7 @@ pub(crate) fn first(blocks: &[u8], ids: &[u32], lengths: &[u32], room: usize) ->
         };
     }
     let k = first_bad(ids, lengths);
+    let sized = size_cause(blocks, ids, lengths, room);
     if k < ids.len() {
         let refusal = entry_cause(ids, lengths, k);
         return Cause {
@@ -28,8 +29,10 @@ pub(crate) fn first(blocks: &[u8], ids: &[u32], lengths: &[u32], room: usize) ->
             entry: k as u32,
         };
     }
-    let refusal = size_cause(blocks, ids, lengths, room);
-    Cause { refusal, entry: 0 }
+    Cause {
+        refusal: sized,
+        entry: 0,
+    }
 }
 
 // The first cause of 31 and 13; 0 where none holds.

@@ -13,7 +13,9 @@ directory-requires : tie.Need-directory-requires
 directory-requires c κs = search needs
 
 cast-trailer : tie.Need-cast-trailer
-cast-trailer c = search needs
+cast-trailer c =
+    let d = c .before .before .before in
+    omega (arith, put-entries _ _ _ (d .directory .ensures), d .before .before .before .before .bytes .ensures .after)
 
 cast-trailer-2 : tie.Need-cast-trailer-2
 cast-trailer-2 c = search needs

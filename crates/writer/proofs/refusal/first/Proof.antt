@@ -27,24 +27,24 @@ returns c =
 first-bad-requires : tie.Need-first-bad-requires
 first-bad-requires c κs = within c .paired
 
+size-cause-requires : tie.Need-size-cause-requires
+size-cause-requires c κs = omega (arith, within (c .before))
+
 entry-cause-requires : tie.Need-entry-cause-requires
-entry-cause-requires c κs = omega (arith, within (c .before .before) .paired)
+entry-cause-requires c κs = omega (arith, within (c .before .before .before) .paired)
 
 cast-t11 : tie.Need-cast-t11
-cast-t11 c = omega (arith, within (c .before .before .before) .few)
+cast-t11 c = omega (arith, within (c .before .before .before .before) .few)
 
 returns-2 : tie.Need-returns-2
 returns-2 c =
-    let f = c .before .before .first-bad .ensures in
-    rw (c .entry-cause .ensures, f .0) (sym (cause-entry _ _ _ _ (good (c .before .before .before)) (omega (arith, f .0))))
-
-size-cause-requires : tie.Need-size-cause-requires
-size-cause-requires c κs = omega (arith, within (c .before .before))
+    let f = c .before .before .before .first-bad .ensures in
+    rw (c .entry-cause .ensures, f .0) (sym (cause-entry _ _ _ _ (good (c .before .before .before .before)) (omega (arith, f .0))))
 
 returns-3 : tie.Need-returns-3
 returns-3 c =
     let f = c .before .before .first-bad .ensures in
-    rw (c .size-cause .ensures) (sym (cause-size _ _ _ _ (good (c .before .before .before)) (omega (arith, f .0))))
+    rw (c .before .size-cause .ensures) (sym (cause-size _ _ _ _ (good (c .before .before .before)) (omega (arith, f .0))))
 
 pub first-spec : {M : Type 1} → statement M
 first-spec =
@@ -53,8 +53,8 @@ first-spec =
     count-cause-requires
     returns
     first-bad-requires
+    size-cause-requires
     entry-cause-requires
     cast-t11
     returns-2
-    size-cause-requires
     returns-3)
