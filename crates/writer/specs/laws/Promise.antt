@@ -13,6 +13,7 @@ use Rattle.basics.specs.laws.Rooms.{room-kept}
 use Rattle.drawlog.specs.declared.Cause.{Cause}
 use Rattle.writer.specs.declared.Written.{Written}
 use Rattle.writer.specs.Made.{made}
+use Rattle.writer.specs.Refusal.{causeOf}
 use Rattle.writer.specs.Promise.{writtenOf, cause, Writing}
 use Rattle.writer.specs.Inside.{Fit, Put}
 use Rattle.writer.specs.laws.Made.{length-made}
@@ -37,7 +38,10 @@ refused-is {b} {is} {ns} {d} {c} e h =
       room = sym (room-kept (c .refusal) (made b is ns) d h);
     }
 
--- and on success
+-- and on success: without a cause the inputs fit
+pub granted : {b is ns : List ℕ} {n : ℕ} {c : Cause} → c ≡ causeOf b is ns n → c .refusal ≡ 0 → Fit b is ns n
+granted {b} {is} {ns} {n} e z = fit-is b is ns n (ap (λ (x : Cause). x .refusal) (sym e) ∙ z)
+
 pub done-is : {b is ns d d′ : List ℕ} {z : ℕ} → Fit b is ns (length d) → Put d 0 (made b is ns) z d′ → Writing b is ns d (record { refusal = 0; entry = 0; length = z }) d′
 done-is {b} {is} {ns} {d} {d′} {z} f t =
     let size : z ≡ length (made b is ns) = omega (arith, t .after) in
