@@ -1,9 +1,10 @@
 -- When a log is refused: the causes 10 to 17, each by its number in document 01, in the order in which they are tested. Assumes nothing.
-use mathlib.Core.Bool.{Bool, true, cond, not, _&&_}
+use mathlib.Core.Bool.{Bool, cond, not, _&&_}
 use mathlib.Core.List.{List}
 use Prim.Native.Nat.{ℕ, zero, suc, _+_, _*_, _%_}
 use lib.Dec.{eqb, leb, ltb}
 use lib.ListN.{length}
+use Rattle.basics.specs.Lists.{rising}
 use Rattle.basics.specs.Search.{firstCaused}
 use Rattle.drawlog.specs.declared.Cause.{Cause}
 use Rattle.drawlog.specs.Log.{entrySize, trailerSize, longest, most, drawSize, directory, count, marked, idAt, startAt, lengthAt}
@@ -19,9 +20,8 @@ logCause s =
     0))))
 
 -- the id of entry k is above the one before; entry 0 never meets 15
-unfoldable pub rises : List ℕ → ℕ → Bool
-rises s zero = true
-rises s (suc k) = ltb (idAt s k) (idAt s (suc k))
+abbrev pub rises : List ℕ → ℕ → Bool
+rises s k = rising (idAt s) k
 
 -- where block k has to start: the first at byte 0, any other where the previous one ended
 unfoldable pub due : List ℕ → ℕ → ℕ

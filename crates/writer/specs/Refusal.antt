@@ -1,10 +1,10 @@
 -- When no log is made of the block bytes b, the ids is and the lengths ns with a room of n bytes: the causes, each by its number, in the order in which they are tested. Assumes nothing.
-use mathlib.Core.Bool.{Bool, true, cond, not, _&&_}
+use mathlib.Core.Bool.{Bool, cond, not, _&&_}
 use mathlib.Core.List.{List}
-use Prim.Native.Nat.{ℕ, zero, suc, _%_}
+use Prim.Native.Nat.{ℕ, _%_}
 use lib.Dec.{eqb, leb, ltb}
 use lib.ListN.{length}
-use Rattle.basics.specs.Lists.{at}
+use Rattle.basics.specs.Lists.{at, rising}
 use Rattle.basics.specs.Search.{firstCaused}
 use Rattle.drawlog.specs.declared.Cause.{Cause}
 use Rattle.drawlog.specs.Log.{longest, most, drawSize}
@@ -18,9 +18,8 @@ countCause is ns =
     0)
 
 -- the id of entry k is above the one before; entry 0 never meets 15
-unfoldable pub rises : List ℕ → ℕ → Bool
-rises is zero = true
-rises is (suc k) = ltb (at is k) (at is (suc k))
+abbrev pub rises : List ℕ → ℕ → Bool
+rises is k = rising (λ j. at is j) k
 
 -- 15, then 17, of entry k; 0 where neither holds
 unfoldable pub entryCause : List ℕ → List ℕ → ℕ → ℕ

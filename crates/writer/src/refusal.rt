@@ -116,7 +116,7 @@ fn size_cause(blocks: &[u8], ids: &[u32], lengths: &[u32], room: usize) -> u32
 // The sum of the lengths. As many as a log may have cannot wrap here.
 fn sum(lengths: &[u32]) -> usize
     requires { ⌜ length (now lengths) ≤ most ⌝ }
-    ensures { λ r. ⌜ (r ≡ sumTo (now (lengths .entry)) (length (now (lengths .entry)))) × (r < 274877906944) ⌝ }
+    ensures { λ r. ⌜ r ≡ sumTo (now (lengths .entry)) (length (now (lengths .entry))) ⌝ }
 {
     let mut total = 0;
     let mut k = 0;

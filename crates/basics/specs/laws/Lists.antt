@@ -1,18 +1,18 @@
--- Laws of equal lists, of stretches of a list, and of tables. Assumes nothing.
+-- Laws of equal lists, of stretches of a list, of tables, and of rows that rise. Assumes nothing.
 use mathlib.Core.Path.{_≡_, refl, sym, ap, _∙_}
 use mathlib.Core.Logic.{⊎-elim}
 use mathlib.Core.Bool.{Bool, true, false, _&&_, true≢false}
 use mathlib.Core.List.{List, [], _∷_}
-use Prim.Native.Nat.{ℕ, zero, suc, _+_, _≤_, _<_}
+use Prim.Native.Nat.{ℕ, zero, suc, _+_, _-_, _≤_, _<_}
 use native.Mathlib.Nat.{eq-or-lt-of-le, le-of-suc-le-suc}
 use native.Mathlib.Decide.{ℕ-discrete}
-use native.Mathlib.Numerals.{add-one}
+use native.Mathlib.Numerals.{add-one, unary-clauses}
 use native.Mathlib.Omega.{arith}
 use borrow.Author.Tests.{eq-eqb, eqb-true}
-use lib.Dec.{eqb}
+use lib.Dec.{eqb, ltb}
 use lib.ListN.{length, take, set, length-append, length-set, List·getD-append}
 use lib.Seq.{slice, length-slice, ext-getD, getD-at, getD-drop, getD-take, getD-set-same, getD-set-other}
-use Rattle.basics.specs.Lists.{at, same, table}
+use Rattle.basics.specs.Lists.{at, same, table, rising}
 
 -- each number is a byte
 abbrev pub Bytes : List ℕ → Type 0
@@ -85,3 +85,22 @@ set-table n f g b v h e other =
     entry : (i : ℕ) → i < n → Dec (i ≡ b) → at (set (table n f) b v) i ≡ g i
     entry i w (yes q) = rw q (getD-set-same (table n f) b v 0 (omega (arith, length-table n f)) ∙ sym e)
     entry i w (no q) = getD-set-other (table n f) b i v 0 q ∙ at-table n f i w ∙ other i w q
+
+-- ROWS THAT RISE
+pub rising-first : (f : ℕ → ℕ) → rising f 0 ≡ true
+unfolding rising
+rising-first f = refl
+
+pub rising-next : (f : ℕ → ℕ) (k : ℕ) → rising f (suc k) ≡ ltb (f k) (f (suc k))
+unfolding rising
+rising-next f k = refl
+
+-- the same of a number that is not the first, as the code sees it
+pub rising-later : (f : ℕ → ℕ) (k : ℕ) → (k ≡ 0 → ⊥) → rising f k ≡ ltb (f (k - 1)) (f k)
+rising-later f zero h = absurd (h refl)
+rising-later f (suc k) h = simp unary-clauses (rising-next f k)
+
+-- only the numbers up to f k matter
+pub rising-ext : (f g : ℕ → ℕ) (k : ℕ) → ((j : ℕ) → j ≤ k → f j ≡ g j) → rising f k ≡ rising g k
+rising-ext f g zero h = rising-first f ∙ sym (rising-first g)
+rising-ext f g (suc k) h = rising-next f k ∙ rw (h k (omega arith), h (suc k) (omega arith)) (sym (rising-next g k))

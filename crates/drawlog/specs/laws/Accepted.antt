@@ -7,9 +7,10 @@ use native.Mathlib.Nat.{eq-or-lt-of-le}
 use native.Mathlib.Omega.{arith}
 use borrow.Author.Tests.{ltb-true}
 use Rattle.basics.specs.laws.Tests.{le-or-lt}
+use Rattle.basics.specs.laws.Lists.{rising-next}
 use Rattle.drawlog.specs.Log.{directory, count, drawSize, idAt, startAt, lengthAt}
 use Rattle.drawlog.specs.Refusal.{due}
-use Rattle.drawlog.specs.laws.Refusal.{Accepted, due-first, due-next, rises-next}
+use Rattle.drawlog.specs.laws.Refusal.{Accepted, due-first, due-next}
 
 module _ (s : List ℕ) (a : Accepted s) where
   -- BLOCKS: the first starts at byte 0
@@ -42,7 +43,7 @@ module _ (s : List ℕ) (a : Accepted s) where
 
   -- IDS rise from each entry to the next, and so to any later one
   rises-to : (k : ℕ) → suc k < count s → idAt s k < idAt s (suc k)
-  rises-to k h = ltb-true _ _ (sym (rises-next s k) ∙ a .each (suc k) h .up)
+  rises-to k h = ltb-true _ _ (sym (rising-next (idAt s) k) ∙ a .each (suc k) h .up)
 
   rise : (n k : ℕ) → k + suc n < count s → idAt s k < idAt s (k + suc n)
   rise zero k h = let e : k + 1 ≡ suc k = omega arith in rw e (rises-to k (omega arith))

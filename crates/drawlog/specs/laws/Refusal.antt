@@ -13,7 +13,7 @@ use Rattle.basics.specs.laws.Tests.{and-true-both, equal-or-not, le-or-lt}
 use Rattle.basics.specs.laws.Causes.{passed, first-caused-is, first-caused-has, none-caused}
 use Rattle.drawlog.specs.declared.layout.Log.{Log}
 use Rattle.drawlog.specs.declared.Cause.{Cause}
-use Rattle.drawlog.specs.Log.{entrySize, trailerSize, longest, most, drawSize, directory, count, marked, logOf, idAt, startAt, lengthAt}
+use Rattle.drawlog.specs.Log.{entrySize, trailerSize, longest, most, drawSize, directory, count, marked, logOf, startAt, lengthAt}
 use Rattle.drawlog.specs.Refusal.{logCause, rises, due, entryCause, firstBad, causeOf}
 use Rattle.drawlog.specs.laws.Log.{Reaches}
 
@@ -26,22 +26,10 @@ pub due-next : (s : List ℕ) (k : ℕ) → due s (suc k) ≡ startAt s k + leng
 unfolding due
 due-next s k = refl
 
-pub rises-first : (s : List ℕ) → rises s 0 ≡ true
-unfolding rises
-rises-first s = refl
-
-pub rises-next : (s : List ℕ) (k : ℕ) → rises s (suc k) ≡ ltb (idAt s k) (idAt s (suc k))
-unfolding rises
-rises-next s k = refl
-
 -- the same of an entry k that is not the first, as the code sees it
 pub due-later : (s : List ℕ) (k : ℕ) → (k ≡ 0 → ⊥) → due s k ≡ startAt s (k - 1) + lengthAt s (k - 1)
 due-later s zero h = absurd (h refl)
 due-later s (suc k) h = simp unary-clauses (due-next s k)
-
-pub rises-later : (s : List ℕ) (k : ℕ) → (k ≡ 0 → ⊥) → rises s k ≡ ltb (idAt s (k - 1)) (idAt s k)
-rises-later s zero h = absurd (h refl)
-rises-later s (suc k) h = simp unary-clauses (rises-next s k)
 
 -- THE FIRST ENTRY that has a cause is what a search upward from entry 0 finds
 pub first-bad-is : {s : List ℕ} {t : Log} {n : ℕ} → Reaches s t n → (k : ℕ) → k ≤ t .count → ((j : ℕ) → j < k → entryCause s j ≡ 0)

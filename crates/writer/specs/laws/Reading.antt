@@ -7,6 +7,7 @@ use native.Mathlib.Omega.{arith}
 use lib.ListN.{length, take, drop, length-append, length-drop}
 use lib.Seq.{drop-at, drop-append-le, take-append-le}
 use Rattle.basics.specs.Lists.{at}
+use Rattle.basics.specs.laws.Lists.{rising-ext}
 use Rattle.drawlog.specs.Number.{bytesOf}
 use Rattle.drawlog.specs.Log.{mark, trailer, directory, count, marked, place, idAt, startAt, lengthAt}
 use Rattle.drawlog.specs.Refusal as log
@@ -16,7 +17,6 @@ use Rattle.drawlog.specs.laws.Refusal as law
 use Rattle.writer.specs.Made.{sumTo, entryBytes, directoryBytes, trailerBytes, made, sizeOf}
 use Rattle.writer.specs.Inside.{Fit}
 use Rattle.writer.specs.laws.Made.{length-directory, length-made, sum-le, block-le}
-use Rattle.writer.specs.laws.Refusal.{rises-next}
 
 -- n entries from entry k on
 unfoldable entriesFrom : List ℕ → List ℕ → ℕ → ℕ → List ℕ
@@ -125,9 +125,7 @@ module _ (b is ns : List ℕ) {n : ℕ} (f : Fit b is ns n) where
   -- IT IS ACCEPTED, where the ids are 32-bit numbers
   module _ (small : (k : ℕ) → at is k < 4294967296) where
     rises-made : (k : ℕ) → k < length is → log.rises s k ≡ true
-    rises-made zero h = law.rises-first s
-    rises-made (suc k) h =
-        law.rises-next s k ∙ rw (id-made k (omega arith) (small k), id-made (suc k) h (small (suc k))) (sym (rises-next is k) ∙ f .up (suc k) h)
+    rises-made k h = rising-ext (idAt s) (λ j. at is j) k (λ j u. id-made j (omega arith) (small j)) ∙ f .up k h
 
     pub made-accepted : law.Accepted s
     made-accepted =

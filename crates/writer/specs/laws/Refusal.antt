@@ -3,11 +3,10 @@ use mathlib.Core.Path.{_≡_, refl, sym, ap, _∙_}
 use mathlib.Core.Logic.{_⊎_, inl, ⊎-elim}
 use mathlib.Core.Bool.{true}
 use mathlib.Core.List.{List}
-use Prim.Native.Nat.{ℕ, zero, suc, _-_, _%_, _≤_, _<_}
-use native.Mathlib.Numerals.{unary-clauses}
+use Prim.Native.Nat.{ℕ, _-_, _%_, _≤_, _<_}
 use native.Mathlib.Omega.{arith}
 use borrow.Author.Tests.{eq-eqb, ne-eqb, lt-ltb, le-ltb, eqb-true, ltb-false, leb-true, le-leb, not-false}
-use lib.Dec.{ltb, lit<}
+use lib.Dec.{lit<}
 use lib.ListN.{length}
 use Rattle.basics.specs.Lists.{at}
 use Rattle.basics.specs.laws.Tests.{and-true-both, equal-or-not, le-or-lt}
@@ -17,19 +16,6 @@ use Rattle.drawlog.specs.Log.{longest, most, drawSize}
 use Rattle.writer.specs.Made.{sumTo, sizeOf}
 use Rattle.writer.specs.Refusal.{countCause, rises, entryCause, firstBad, sizeCause, causeOf}
 use Rattle.writer.specs.Inside.{Fit}
-
--- ENTRY 0, and an entry that is not the first
-pub rises-first : (is : List ℕ) → rises is 0 ≡ true
-unfolding rises
-rises-first is = refl
-
-pub rises-next : (is : List ℕ) (k : ℕ) → rises is (suc k) ≡ ltb (at is k) (at is (suc k))
-unfolding rises
-rises-next is k = refl
-
-pub rises-later : (is : List ℕ) (k : ℕ) → (k ≡ 0 → ⊥) → rises is k ≡ ltb (at is (k - 1)) (at is k)
-rises-later is zero h = absurd (h refl)
-rises-later is (suc k) h = simp unary-clauses (rises-next is k)
 
 -- THE FIRST ENTRY that has a cause is what a search upward from entry 0 finds
 pub first-bad-is : (is ns : List ℕ) (k : ℕ) → k ≤ length is → ((j : ℕ) → j < k → entryCause is ns j ≡ 0)

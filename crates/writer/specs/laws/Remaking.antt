@@ -7,7 +7,7 @@ use native.Mathlib.Omega.{arith}
 use lib.ListN.{length, take, drop, length-take}
 use lib.Seq.{drop-drop, take-all, take-add}
 use Rattle.basics.specs.Lists.{at}
-use Rattle.basics.specs.laws.Lists.{Bytes, length-table, at-table}
+use Rattle.basics.specs.laws.Lists.{Bytes, length-table, at-table, rising-ext}
 use Rattle.drawlog.specs.Log.{entrySize, trailerSize, mark, trailer, directory, count, place, idAt, lengthAt}
 use Rattle.drawlog.specs.Refusal as log
 use Rattle.drawlog.specs.laws.Number.{bytes-read}
@@ -17,7 +17,6 @@ use Rattle.writer.specs.Made.{sumTo, entryBytes, directoryBytes, trailer
 use Rattle.writer.specs.Refusal.{rises}
 use Rattle.writer.specs.Contents.{blocksOf, idsOf, lengthsOf}
 use Rattle.writer.specs.Inside.{Fit}
-use Rattle.writer.specs.laws.Refusal.{rises-first, rises-next}
 
 -- n bytes from byte o on, and two such stretches that lie back to back
 abbrev part : List ℕ → ℕ → ℕ → List ℕ
@@ -95,8 +94,7 @@ module _ (s : List ℕ) (bytes : Bytes s) (a : law.Accepted s) where
 
   -- and its contents fit any room that holds it
   up : (k : ℕ) → k < count s → rises (idsOf s) k ≡ true
-  up zero h = rises-first (idsOf s)
-  up (suc k) h = rises-next (idsOf s) k ∙ rw (id-of k (omega arith), id-of (suc k) h) (sym (law.rises-next s k) ∙ a .each (suc k) h .up)
+  up k h = rising-ext (λ j. at (idsOf s) j) (idAt s) k (λ j u. id-of j (omega arith)) ∙ a .each k h .up
 
   pub contents-fit : (n : ℕ) → length s ≤ n → Fit (blocksOf s) (idsOf s) (lengthsOf s) n
   contents-fit n h =

@@ -6,7 +6,6 @@ use Prim.Native.Nat.{ℕ, _-_, _≤_, _<_}
 use borrow.Author.Needs.{needs}
 use native.Mathlib.Omega.{arith}
 use borrow.Author.Count.{below-none, below-more}
-use Rattle.drawlog.specs.Log as spec
 use Rattle.drawlog.specs.Refusal.{entryCause}
 use Rattle.drawlog.specs.laws.Refusal.{first-bad-is}
 use Rattle.drawlog.proofs.refusal.first_bad.Statement.{statement}

@@ -15,7 +15,7 @@ use Rattle.writer.proofs.refusal.size_cause.Tie as tie
 
 -- the sum is that of as many lengths as there are ids
 summed : (c : tie.After-sum) → let a = c .before .before .before .before .args in c .sum .result ≡ sumTo (now (a .lengths)) (length (now (a .ids)))
-summed c = c .sum .ensures .0 ∙ ap (sumTo (now (c .before .before .before .before .args .lengths))) (omega arith)
+summed c = c .sum .ensures ∙ ap (sumTo (now (c .before .before .before .before .args .lengths))) (omega arith)
 
 sum-requires : tie.Need-sum-requires
 sum-requires c κs = search needs

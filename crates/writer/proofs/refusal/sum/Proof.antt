@@ -47,7 +47,7 @@ loop-again c =
 returns : tie.Need-returns Inv-loop μ-loop
 returns c =
     let l = c .before in
-    (l .loop .inv .1 ∙ ap (sumTo (now (l .before .before .args .lengths))) (omega arith), omega (arith, l .loop .inv .2))
+    l .loop .inv .1 ∙ ap (sumTo (now (l .before .before .args .lengths))) (omega arith)
 
 pub sum-spec : {M : Type 1} → statement M
 sum-spec =
