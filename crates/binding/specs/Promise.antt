@@ -6,11 +6,11 @@ use Rattle.lines.specs.Promise.{Laid, laid-once}
 use Rattle.binding.specs.declared.Id.{Id}
 use Rattle.binding.specs.Ids.{idOf}
 
--- no line has more bytes beside the name in it
+-- no text has more bytes beside the name in it
 abbrev pub longest : ℕ
 longest = 64
 
--- the calls that say something, of the buffer d: the line w from the front on, as far as the buffer reaches. The answer is r, and the buffer ends as d′.
+-- the calls that put a text w, of the buffer d: w from the front on, as far as the buffer reaches. The answer is r, and the buffer ends as d′.
 abbrev pub Said : List ℕ → List ℕ → ℕ → List ℕ → Type 0
 Said w d r d′ = Laid d 0 w r d′
 

@@ -4,19 +4,21 @@
 // bound_line, refused_line                   how a binding ended: two numbers
 // unread_line, unwritten_line, bad_id_line   why there was none: the name as it was given
 // usage_line                                 how the program is called
+// beside                                     the name of a file in the log's folder
 //
-// Each line is put from the front of the buffer on, as far as it reaches, and its whole length is answered.
+// Each text is put from the front of the buffer on, as far as it reaches, and its whole length is answered.
 ghost use mathlib.Core.Path.{_≡_};
 ghost use Prim.Native.Nat.{_+_, _≤_};
 ghost use lib.ListN.{length};
 ghost use Rattle.lines.specs.Digits.{digits};
 ghost use Rattle.lines.specs.Promise.{Laid};
 ghost use Rattle.binding.specs.Ids.{limit, idOf};
+ghost use Rattle.binding.specs.Beside.{folderEnd, besideName};
 ghost use Rattle.binding.specs.Said.{boundWord, refusedWord, unreadWord, unwrittenWord, badIdWord, numbersLine, nameLine, usageLine};
 ghost use Rattle.binding.specs.Promise.{longest, Said};
 ghost use Rattle.binding.specs.Inside.{next as Inside·next};
 
-// No line has more bytes beside the name in it.
+// No text has more bytes beside the name in it.
 pub const LONGEST: usize = 64;
 
 // Every id is below it.
@@ -28,6 +30,10 @@ const BASE: u64 = 10;
 const BLANK: u8 = b' ';
 
 const LINE_END: u8 = b'\n';
+
+const SLASH: u8 = b'/';
+
+const DASH: u8 = b'-';
 
 // An id. Where the text is none, the value is 0.
 pub struct Id {
@@ -125,6 +131,35 @@ pub fn usage_line(out: &mut [u8]) -> usize
 {
     let p1 = lines::word(out, 0, b"usage: bind LOG ID FILE ID FILE ..");
     lines::byte(out, p1, LINE_END)
+}
+
+// A name beside the log, in its folder: with two numbers, so that others are unlikely to have it.
+pub fn beside(out: &mut [u8], log: &[u8], m: u64, n: u64) -> usize
+    ensures text { λ r. ⌜ Said (besideName (now (log .entry)) m n) (now (out .entry)) r (now (out .exit)) ⌝ }
+    ensures short { λ r. ⌜ r ≤ longest + length (now (log .entry)) ⌝ }
+{
+    let end = folder(log);
+    let p1 = lines::word(out, 0, &log[..end]);
+    let p2 = lines::word(out, p1, b".bind-");
+    let p3 = lines::number(out, p2, m);
+    let p4 = lines::byte(out, p3, DASH);
+    lines::number(out, p4, n)
+}
+
+// How many bytes of the path name its folder: up to the last slash, with it.
+fn folder(path: &[u8]) -> usize
+    ensures { λ r. ⌜ r ≡ folderEnd (now (path .entry)) ⌝ }
+    ensures { λ r. ⌜ r ≤ length (now (path .entry)) ⌝ }
+{
+    let mut end = 0;
+    let mut i = 0;
+    while i < path.len() {
+        if path[i] == SLASH {
+            end = i + 1;
+        }
+        i += 1;
+    }
+    end
 }
 
 // A word and two numbers.
