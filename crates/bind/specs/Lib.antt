@@ -1,0 +1,3 @@
+-- The program's own words: no part of a public promise.
+-- what the private functions promise each other
+pub mod Inside
