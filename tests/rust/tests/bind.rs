@@ -16,7 +16,7 @@ use nahuitepol_tests::writer::Contents;
 
 const PROGRAM: &str = concat!(env!("CARGO_MANIFEST_DIR"), "/../../target/bin/bind");
 const OVERLAP: &str = concat!(env!("CARGO_MANIFEST_DIR"), "/../../target/bin/overlap");
-const SCRATCH: &str = concat!(env!("CARGO_MANIFEST_DIR"), "/../../target/tests/bind");
+const SCRATCH: &str = concat!(env!("CARGO_MANIFEST_DIR"), "/../../target/tests/bind-runs");
 
 const USAGE: &str = "usage: bind LOG ID FILE ID FILE ..\n";
 const LOG: &str = "night.log";
