@@ -2,6 +2,7 @@
 ghost use mathlib.Core.Path.{_≡_};
 ghost use Prim.Native.Nat.{_≤_};
 ghost use lib.ListN.{length};
+ghost use Rattle.writer.specs.Made.{sumTo};
 ghost use Rattle.bind.specs.Inside.{most, tooMany, wordSize, lineSize, blocksSize};
 
 // The arguments: the first file, and an id between two of them.
@@ -33,6 +34,7 @@ pub(crate) fn take(
     requires { ⌜ (files ≤ most) × (length (now lengths) ≡ tooMany) ⌝ }
     requires { ⌜ (length (now blocks) ≡ blocksSize) × (length (now word) ≡ wordSize) ⌝ }
     ensures { λ r. ⌜ (r .end ≤ blocksSize) × (r .said ≤ lineSize) ⌝ }
+    ensures { λ r. ⌜ (r .said ≡ 0 → sumTo (now (lengths .exit)) files ≡ r .end) ⌝ }
 {
     let mut end = 0;
     let mut k = 0;

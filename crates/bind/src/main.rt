@@ -14,6 +14,7 @@
 ghost use mathlib.Core.Path.{_≡_};
 ghost use Prim.Native.Nat.{_≤_};
 ghost use lib.ListN.{length};
+ghost use Rattle.writer.specs.Made.{sumTo};
 ghost use Rattle.bind.specs.Inside.{most, tooMany, wordSize, lineSize, blocksSize};
 
 mod files; // files.rt: reads the blocks
@@ -121,6 +122,7 @@ fn gather(
 fn files_of(replicates: usize) -> usize
     requires { ⌜ replicates ≤ tooMany ⌝ }
     ensures { λ r. ⌜ r ≤ most ⌝ }
+    ensures { λ r. ⌜ (replicates ≤ most → r ≡ replicates) ⌝ }
 {
     if replicates < REPLICATES {
         replicates
@@ -150,6 +152,7 @@ fn take_ids(replicates: usize, ids: &mut [u32], word: &mut [u8], line: &mut [u8]
 // Makes the log and stores it. Answers the length of the line that says so.
 fn said_of(blocks: &[u8], ids: &[u32], lengths: &[u32], word: &mut [u8], line: &mut [u8]) -> usize
     requires { ⌜ (length (now ids) ≤ tooMany) × (length (now word) ≡ wordSize) ⌝ }
+    requires { ⌜ (length (now ids) ≡ length (now lengths)) × (length (now ids) ≤ most → sumTo (now lengths) (length (now ids)) ≡ length (now blocks)) ⌝ }
     ensures { λ r. ⌜ r ≤ lineSize ⌝ }
 {
     let mut room = [0u8; ROOM];

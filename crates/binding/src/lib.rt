@@ -8,7 +8,7 @@
 //
 // Each text is put from the front of the buffer on, as far as it reaches, and its whole length is answered.
 ghost use mathlib.Core.Path.{_≡_};
-ghost use Prim.Native.Nat.{_+_, _≤_};
+ghost use Prim.Native.Nat.{_+_, _≤_, _<_};
 ghost use lib.ListN.{length};
 ghost use Rattle.lines.specs.Digits.{digits};
 ghost use Rattle.lines.specs.Promise.{Laid};
@@ -104,6 +104,7 @@ pub fn refused_line(out: &mut [u8], refusal: u32, entry: u32) -> usize
 pub fn unread_line(out: &mut [u8], file: &[u8]) -> usize
     ensures text { λ r. ⌜ Said (nameLine unreadWord (now (file .entry))) (now (out .entry)) r (now (out .exit)) ⌝ }
     ensures short { λ r. ⌜ r ≤ longest + length (now (file .entry)) ⌝ }
+    ensures said { λ r. ⌜ 0 < r ⌝ }
 {
     named(out, b"cannot read ", file)
 }
@@ -112,6 +113,7 @@ pub fn unread_line(out: &mut [u8], file: &[u8]) -> usize
 pub fn unwritten_line(out: &mut [u8], log: &[u8]) -> usize
     ensures text { λ r. ⌜ Said (nameLine unwrittenWord (now (log .entry))) (now (out .entry)) r (now (out .exit)) ⌝ }
     ensures short { λ r. ⌜ r ≤ longest + length (now (log .entry)) ⌝ }
+    ensures said { λ r. ⌜ 0 < r ⌝ }
 {
     named(out, b"cannot write ", log)
 }
@@ -120,6 +122,7 @@ pub fn unwritten_line(out: &mut [u8], log: &[u8]) -> usize
 pub fn bad_id_line(out: &mut [u8], text: &[u8]) -> usize
     ensures text { λ r. ⌜ Said (nameLine badIdWord (now (text .entry))) (now (out .entry)) r (now (out .exit)) ⌝ }
     ensures short { λ r. ⌜ r ≤ longest + length (now (text .entry)) ⌝ }
+    ensures said { λ r. ⌜ 0 < r ⌝ }
 {
     named(out, b"bad id ", text)
 }

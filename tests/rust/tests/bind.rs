@@ -45,7 +45,8 @@ impl Folder {
     }
 
     fn names(&self) -> Vec<OsString> {
-        let mut names: Vec<_> = fs::read_dir(&self.0).unwrap().map(|entry| entry.unwrap().file_name()).collect();
+        let mut names: Vec<_> =
+            fs::read_dir(&self.0).unwrap().map(|entry| entry.unwrap().file_name()).collect();
         names.sort();
         names
     }
@@ -121,7 +122,7 @@ fn with_old_log(name: &str) -> Folder {
 /// Whether this process may do anything, as the superuser may, so that permissions keep it from nothing.
 fn may_all(folder: &Folder) -> bool {
     folder.put("locked", b"");
-    fs::set_permissions(folder.path("locked"), fs::Permissions::from_mode(0)).unwrap();
+    fs::set_permissions(folder.path("locked"), fs::Permissions::from_mode(0o000)).unwrap();
     let opened = File::open(folder.path("locked")).is_ok();
     fs::remove_file(folder.path("locked")).unwrap();
     opened
@@ -146,7 +147,7 @@ fn replicates_at_random() {
     let mut generator = Generator::new(80);
     let names: Vec<String> = (0..7).map(|k| format!("draws-{k}")).collect();
     let mut bound = 0;
-    for _ in 0..600 {
+    for _ in 0..300 {
         let mut id = generator.pick(&[0, 3, 0xFFFF_FF00]);
         let mut replicates = Vec::new();
         for name in &names[..generator.between(1, 7)] {
@@ -157,7 +158,7 @@ fn replicates_at_random() {
         }
         bound += usize::from(folder.compare(&replicates).starts_with("bound"));
     }
-    assert!((150..450).contains(&bound), "{bound} of 600 bound: the cases say little");
+    assert!((75..225).contains(&bound), "{bound} of 300 bound: the cases say little");
 }
 
 #[test]
@@ -211,7 +212,8 @@ fn ids_as_they_may_be_written() {
 #[test]
 fn texts_that_are_no_ids() {
     let folder = with_old_log("bad-ids");
-    let wraps = ["4294967296", "4294967303", "18446744073709551615", "18446744073709551616", "36893488147419103232"];
+    let wraps =
+        ["4294967296", "4294967303", "18446744073709551615", "18446744073709551616", "36893488147419103232"];
     let others = ["", "-1", "+1", " 1", "1 ", "0x1", "1e3", "1.0", "seven", "1/", "1:", "7\n"];
     let long = ["9".repeat(5_000), "1".repeat(100_000), format!("{}x", "0".repeat(131_000))];
     for text in wraps.into_iter().chain(others).chain(long.iter().map(String::as_str)) {
@@ -233,7 +235,7 @@ fn files_that_cannot_be_read() {
         folder.run_in_vain(&[LOG, "1", file], &format!("cannot read {file}\n"));
         folder.run_in_vain(&[LOG, "1", "one", "2", file, "0", "two"], &format!("cannot read {file}\n"));
     }
-    fs::set_permissions(folder.path("one"), fs::Permissions::from_mode(0)).unwrap();
+    fs::set_permissions(folder.path("one"), fs::Permissions::from_mode(0o000)).unwrap();
     if !may_all(&folder) {
         assert_eq!(folder.run(&[LOG, "1", "one"]), "cannot read one\n");
         assert_eq!(folder.get(LOG), b"the log of last night");
@@ -316,7 +318,9 @@ fn names_near_the_systems_limits() {
     assert_eq!(folder.run(&[name.as_str(), "1", "one"]), "bound 1 344\n");
     assert_eq!(folder.get(&name).len(), 344);
     // 4,095 bytes are the most of a path.
-    let deep = |last: &str| format!("{}{}{last}", "./".repeat((4_095 - last.len()) / 2), "/".repeat((4_095 - last.len()) % 2));
+    let deep = |last: &str| {
+        format!("{}{}{last}", "./".repeat((4_095 - last.len()) / 2), "/".repeat((4_095 - last.len()) % 2))
+    };
     let (log, file) = (deep("a-log-with-a-name-that-is-long-enough"), deep("one"));
     assert_eq!((log.len(), file.len()), (4_095, 4_095));
     assert_eq!(folder.run(&[&log, "1", &file]), "bound 1 344\n");
@@ -364,7 +368,8 @@ fn files_that_are_pipes() {
     for length in [1_000, 4_096, 29_999] {
         let log = expected();
         let mut command = folder.command(&[LOG, "1", "one", "2", "/dev/stdin", "3", "two"]);
-        let mut child = command.stdin(Stdio::piped()).stdout(Stdio::piped()).stderr(Stdio::piped()).spawn().unwrap();
+        let mut child =
+            command.stdin(Stdio::piped()).stdout(Stdio::piped()).stderr(Stdio::piped()).spawn().unwrap();
         let mut input = child.stdin.take().unwrap();
         for piece in bytes.chunks(length) {
             input.write_all(piece).unwrap();
@@ -398,7 +403,13 @@ fn many_at_once_in_one_folder() {
     let folder = with_old_log("at-once");
     let logs: Vec<String> = (0..8).map(|k| format!("log-{k}")).collect();
     let children: Vec<_> = (0..64)
-        .map(|k| folder.command(&[logs[k % 8].as_str(), "1", "one", "2", "two"]).stdout(Stdio::piped()).spawn().unwrap())
+        .map(|k| {
+            folder
+                .command(&[logs[k % 8].as_str(), "1", "one", "2", "two"])
+                .stdout(Stdio::piped())
+                .spawn()
+                .unwrap()
+        })
         .collect();
     for child in children {
         assert_eq!(said(child.wait_with_output().unwrap()), "bound 2 620\n");

@@ -1,10 +1,13 @@
--- `gather` is safe: the rooms keep their lengths, so their fronts are there.
+-- `gather` meets its contract: the rooms keep their lengths, so their fronts are there, and the lengths of the files that were read add up
+-- to the blocks' bytes.
 -- Assumes nothing.
 use borrow.Author.Needs.{needs}
-use mathlib.Core.Path.{sym, _∙_}
+use mathlib.Core.Path.{_≡_, sym, ap, _∙_}
 use native.Mathlib.Omega.{arith}
-use lib.ListN.{length-take}
+use lib.ListN.{length, take}
 use lib.Seq.{length-take-le}
+use Rattle.writer.specs.Made.{sumTo}
+use Rattle.bind.specs.laws.Lengths.{sum-front}
 use Rattle.bind.proofs.gather.Statement.{statement}
 use Rattle.bind.proofs.gather.Tie as tie
 
@@ -68,9 +71,25 @@ slice-aggregate-said-of-3 c = sym (length-take-le _ _ (search needs))
 said-of-requires : tie.Need-said-of-requires
 said-of-requires c κs =
     let take· = c .before .before .before .before .before .before .before .before .before .before .before .before .before .before in
-    let ids· = take· .before .before .before .before .before .before .before .before .before .before .before .before .before in
+    let files· = take· .before .before .before .before .before in
+    let ids· = files· .before .before .before .before .before .before .before .before in
     let s = ids· .before .before .before .before .before .before .before .before .before in
-    (simp length-take (omega (arith, s .pre .0 .0)), take· .take .kept .1 .1 .1 .0 ∙ ids· .take-ids .kept .1 .1 .0 ∙ s .pre .1 .1)
+    let n = s .args .replicates in
+    let ids = ids· .take-ids .last .1 .0 in
+    let lengths = take· .take .last .1 .0 in
+    let blocks = take· .take .last .1 .1 .0 in
+    let end = take· .take .result .end in
+    let i : length (take n ids) ≡ n = length-take-le n ids (omega (arith, s .pre .0 .0, s .pre .0 .1, ids· .take-ids .kept .1 .0)) in
+    let l : length (take n lengths) ≡ n = length-take-le n lengths (omega (arith, s .pre .0 .0, s .pre .0 .2, take· .take .kept .1 .0)) in
+    let b : length (take end blocks) ≡ end = length-take-le end blocks (omega (arith, s .pre .1 .0, take· .take .ensures .0 .0, take· .take .kept .1 .1 .0)) in (
+      (omega (arith, i, s .pre .0 .0), take· .take .kept .1 .1 .1 .0 ∙ ids· .take-ids .kept .1 .1 .0 ∙ s .pre .1 .1),
+      (
+        i ∙ sym l,
+        λ h.
+            rw (i, b)
+            (sum-front lengths n n (omega arith) ∙ ap (sumTo lengths) (sym (files· .files-of .ensures .1 (omega (arith, i, h)))) ∙ take· .take .ensures .1 (c .before .before .before .before .before .if2 .left)),
+      ),
+    )
 
 same-length-9 : tie.Need-same-length-9
 same-length-9 c = search needs

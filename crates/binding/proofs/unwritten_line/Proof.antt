@@ -3,7 +3,7 @@
 use borrow.Author.Needs.{needs}
 use native.Mathlib.Omega.{arith}
 use Rattle.binding.specs.Said.{unwrittenWord}
-use Rattle.binding.specs.laws.Said.{name-short}
+use Rattle.binding.specs.laws.Said.{name-short, name-some}
 use Rattle.binding.proofs.unwritten_line.Statement.{statement}
 use Rattle.binding.proofs.unwritten_line.Tie as tie
 
@@ -20,7 +20,7 @@ returns : tie.Need-returns
 returns c =
     let said = c .before .before .named .ensures in
     let name = c .before .before .before .before .before .before .before .args .log .now in
-    (said, omega (arith, name-short unwrittenWord name said))
+    (said, (omega (arith, name-short unwrittenWord name said), name-some unwrittenWord name said))
 
 pub unwritten-line-spec : {M : Type 1} → statement M
 unwritten-line-spec = tie.close (tie.spec slice-aggregate-named named-requires same-length returns)

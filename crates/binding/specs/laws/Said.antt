@@ -6,6 +6,7 @@ use native.Mathlib.Omega.{arith}
 use lib.ListN.{length, length-append}
 use Rattle.lines.specs.Digits.{digits}
 use Rattle.lines.specs.laws.Digits.{digits-most}
+use Rattle.lines.specs.Put.{after}
 use Rattle.lines.specs.laws.Put.{after-short}
 use Rattle.binding.specs.Said.{numbersLine, nameLine, usageLine}
 use Rattle.binding.specs.Promise.{longest, Said}
@@ -22,12 +23,20 @@ name-length : (w name : List ℕ) → length (nameLine w name) ≡ 1 + length w 
 unfolding nameLine
 name-length w name = simp length-append (omega arith)
 
+after-some : (w : List ℕ) → 0 < length w → 0 < after 0 w
+unfolding after
+after-some w h = omega arith
+
 module _ {d : List ℕ} {r : ℕ} {d′ : List ℕ} where
   pub numbers-short : (w : List ℕ) (m n : ℕ) → m < 2 ^ 32 → n < 2 ^ 32 → Said (numbersLine w m n) d r d′ → r ≤ 22 + length w
   numbers-short w m n h l s = omega (arith, s .answer, after-short 0 (numbersLine w m n), numbers-length w m n h l)
 
   pub name-short : (w name : List ℕ) → Said (nameLine w name) d r d′ → r ≤ 1 + length w + length name
   name-short w name s = omega (arith, s .answer, after-short 0 (nameLine w name), name-length w name)
+
+  -- no line is empty, so an answer of 0 can stand for none
+  pub name-some : (w name : List ℕ) → Said (nameLine w name) d r d′ → 0 < r
+  name-some w name s = omega (arith, s .answer, after-some (nameLine w name) (omega (arith, name-length w name)))
 
   pub usage-short : Said usageLine d r d′ → r ≤ longest
   unfolding usageLine

@@ -1,21 +1,25 @@
--- `take` is safe and ends: each turn reads a file, and the blocks stay within their room.
+-- `take` meets its contract. The loop's invariant: k files are read, the blocks stay within their room, and `end` is the sum of the first
+-- k lengths.
 -- Assumes nothing.
 use borrow.Author.Needs.{needs}
-use mathlib.Core.Path.{_≡_, refl, sym, _∙_}
+use mathlib.Core.Path.{_≡_, refl, ap, _∙_}
 use Prim.Native.Nat.{_≤_, _-_}
 use native.Mathlib.Omega.{arith}
 use lib.ListN.{length, length-set}
+use Rattle.writer.specs.Made.{sumTo}
+use Rattle.writer.specs.laws.Made.{sum-none}
+use Rattle.bind.specs.laws.Lengths.{sum-stored}
 use Rattle.bind.proofs.files.take.Statement.{statement}
 use Rattle.bind.proofs.files.take.Tie as tie
 
 abbrev Inv-loop : tie.InvT-loop
-Inv-loop files lengths₀ blocks₀ word₀ line₀ end₀ k₀ lengths blocks word line end k = (k ≤ files) × (end ≤ length blocks) × (length lengths ≡ length lengths₀) × (length blocks ≡ length blocks₀) × (length word ≡ length word₀) × (length line ≡ length line₀)
+Inv-loop files lengths₀ blocks₀ word₀ line₀ end₀ k₀ lengths blocks word line end k = (k ≤ files) × (end ≤ length blocks) × (length lengths ≡ length lengths₀) × (length blocks ≡ length blocks₀) × (length word ≡ length word₀) × (length line ≡ length line₀) × (sumTo lengths k ≡ end)
 
 abbrev μ-loop : tie.MeasureT-loop
 μ-loop files lengths₀ blocks₀ word₀ line₀ end₀ k₀ lengths blocks word line end k = files - k
 
 loop-holds : tie.Need-loop-holds Inv-loop μ-loop
-loop-holds c = search needs
+loop-holds c = (omega arith, omega arith, refl, refl, refl, refl, sum-none (c .before .before .before .before .args .lengths .now))
 
 mul-arg : tie.Need-mul-arg Inv-loop μ-loop
 mul-arg c = omega arith
@@ -57,7 +61,9 @@ same-length-4 : tie.Need-same-length-4 Inv-loop μ-loop
 same-length-4 c = search needs
 
 returns : tie.Need-returns Inv-loop μ-loop
-returns c = search needs
+returns c =
+    let line = c .before .before .unread-line .ensures in
+    ((search needs, search needs), λ z. absurd (omega (arith, line .1 .1)))
 
 sub-lengths : tie.Need-sub-lengths Inv-loop μ-loop
 sub-lengths c = omega arith
@@ -78,7 +84,11 @@ loop-less : tie.Need-loop-less Inv-loop μ-loop
 loop-less c = omega arith
 
 loop-again : tie.Need-loop-again Inv-loop μ-loop
-loop-again c = (omega arith, omega arith, simp length-set (omega arith), search needs, search needs, search needs)
+loop-again c =
+    let file· = c .before .before .before .before .before in
+    let l = file· .before .before .before .before .before .before .before .before .loop in
+    let r = file· .file .result in
+    (omega arith, omega arith, simp length-set (omega arith), search needs, search needs, search needs, sum-stored (l .lengths) (l .k) (r .end - l .end) (omega arith) ∙ omega (arith, l .inv .6, file· .file .ensures .0))
 
 same-length-5 : tie.Need-same-length-5 Inv-loop μ-loop
 same-length-5 c = search needs
@@ -93,7 +103,10 @@ same-length-8 : tie.Need-same-length-8 Inv-loop μ-loop
 same-length-8 c = search needs
 
 returns-2 : tie.Need-returns-2 Inv-loop μ-loop
-returns-2 c = search needs
+returns-2 c =
+    let l = c .before .loop in
+    let all : c .before .before .before .before .before .before .args .files ≡ l .k = omega arith in
+    ((search needs, omega arith), λ z. ap (sumTo (l .lengths)) all ∙ l .inv .6)
 
 pub take-spec : {M : Type 1} → statement M
 take-spec =
