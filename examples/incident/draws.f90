@@ -12,8 +12,8 @@ program draws
   call get_command_argument(3, file)
   select case (night)
   case ('first')
-    ! The fault. The images of one run would draw apart; but here each replicate is a run of its own, of one image,
-    ! whose number is 1 every time. So all replicates begin with one and the same seed.
+    ! The fault. This is meant to set the images of one run apart; but here each replicate is a run of its own, of
+    ! one image, whose number is 1 every time. So all replicates begin with one and the same seed.
     call random_init(repeatable=.true., image_distinct=.true.)
   case ('second')
     call seed_apart(replicate)
