@@ -1,7 +1,7 @@
 // The blocks, out of the files: each file's bytes behind those of the file before it.
 ghost use mathlib.Core.Path.{_≡_};
 ghost use Prim.Native.Nat.{_≤_};
-ghost use lib.ListN.{length};
+ghost use lib.ListN.{length, take};
 ghost use Rattle.writer.specs.Made.{sumTo};
 ghost use Rattle.bind.specs.Inside.{most, tooMany, wordSize, lineSize, blocksSize};
 
@@ -52,10 +52,12 @@ pub(crate) fn take(
     Taken { end, said: 0 }
 }
 
-// Reads one file into the room from a place on. Where the room is full, it is not even opened.
+// Reads one file into the room from a place on; what stands before that stays. Where the room is full, the file is not
+// even opened.
 fn file(path: &[u8], blocks: &mut [u8], from: usize) -> Read
     requires { ⌜ from ≤ length (now blocks) ⌝ }
     ensures { λ r. ⌜ (from ≤ r .end) × (r .end ≤ length (now (blocks .entry))) ⌝ }
+    ensures { λ _. ⌜ take from (now (blocks .exit)) ≡ take from (now (blocks .entry)) ⌝ }
 {
     if from == blocks.len() {
         return Read {
@@ -79,6 +81,7 @@ fn file(path: &[u8], blocks: &mut [u8], from: usize) -> Read
 fn whole(fd: i32, blocks: &mut [u8], from: usize) -> Read
     requires { ⌜ from ≤ length (now blocks) ⌝ }
     ensures { λ r. ⌜ (from ≤ r .end) × (r .end ≤ length (now (blocks .entry))) ⌝ }
+    ensures { λ _. ⌜ take from (now (blocks .exit)) ≡ take from (now (blocks .entry)) ⌝ }
 {
     let mut end = from;
     while end < blocks.len() {

@@ -1,21 +1,29 @@
--- `whole` is safe and ends. The loop's invariant: `end` lies from `from` to the room's end, and each turn moves it on.
+-- `whole` meets its contract. The loop's invariant: `end` lies from `from` to the room's end, and what stands before `from` is as it was;
+-- each turn moves `end` on.
 -- Assumes nothing.
-use mathlib.Core.Path.{_≡_, refl, _∙_}
+use mathlib.Core.Path.{_≡_, refl, sym, ap, _∙_}
 use Prim.Native.Nat.{ℕ, _≤_, _-_}
 use native.Mathlib.Omega.{arith}
-use lib.ListN.{length}
-use borrow.Rule.Slice.PartMut.{same-len-mid}
+use mathlib.Core.List.{List}
+use lib.ListN.{length, take}
+use lib.Seq.{take-take}
+use borrow.Rule.Slice.PartMut.{putMid, same-len-mid, take-put}
 use Rattle.bind.proofs.files.whole.Statement.{statement}
 use Rattle.bind.proofs.files.whole.Tie as tie
 
+-- what is read from `end` on leaves what stands before `from`
+still : (from end : ℕ) (xs ys : List ℕ) → from ≤ end → end ≤ length xs → take from (putMid end (length xs - end) xs ys) ≡ take from xs
+still from end xs ys h l =
+    sym (take-take from end (putMid end (length xs - end) xs ys) h) ∙ ap (take from) (take-put end (length xs - end) xs ys l) ∙ take-take from end xs h
+
 abbrev Inv-loop : tie.InvT-loop
-Inv-loop fd blocks₀ from end₀ blocks end = (from ≤ end) × (end ≤ length blocks) × (length blocks ≡ length blocks₀)
+Inv-loop fd blocks₀ from end₀ blocks end = (from ≤ end) × (end ≤ length blocks) × (length blocks ≡ length blocks₀) × (take from blocks ≡ take from blocks₀)
 
 abbrev μ-loop : tie.MeasureT-loop
 μ-loop fd blocks₀ from end₀ blocks end = length blocks - end
 
 loop-holds : tie.Need-loop-holds Inv-loop μ-loop
-loop-holds c = (omega arith, omega arith, refl)
+loop-holds c = (omega arith, omega arith, refl, refl)
 
 sub-some : tie.Need-sub-some Inv-loop μ-loop
 sub-some c = omega arith
@@ -36,7 +44,10 @@ same-length c =
     same-len-mid {X = ℕ} (l .end) (length (l .blocks) - l .end) (l .blocks) (some· .some .last .1 .0) (some· .some .kept .1 .0) ∙ l .inv .2
 
 returns : tie.Need-returns Inv-loop μ-loop
-returns c = (omega arith, omega arith)
+returns c =
+    let some· = c .before .before .before in
+    let l = some· .before .before .before .loop in
+    ((omega arith, omega arith), still (some· .before .before .before .before .before .args .from) (l .end) (l .blocks) (some· .some .last .1 .0) (l .inv .0) (l .inv .1) ∙ l .inv .3)
 
 add-end : tie.Need-add-end Inv-loop μ-loop
 add-end c = omega arith
@@ -53,13 +64,13 @@ loop-again c =
     let some· = c .before .before .before in
     let l = some· .before .before .before .loop in
     let e = same-len-mid {X = ℕ} (l .end) (length (l .blocks) - l .end) (l .blocks) (some· .some .last .1 .0) (some· .some .kept .1 .0) in
-    (omega arith, rw e (omega arith), e ∙ l .inv .2)
+    (omega arith, rw e (omega arith), e ∙ l .inv .2, still (some· .before .before .before .before .before .args .from) (l .end) (l .blocks) (some· .some .last .1 .0) (l .inv .0) (l .inv .1) ∙ l .inv .3)
 
 same-length-2 : tie.Need-same-length-2 Inv-loop μ-loop
 same-length-2 c = c .before .loop .inv .2
 
 returns-2 : tie.Need-returns-2 Inv-loop μ-loop
-returns-2 c = (omega arith, omega arith)
+returns-2 c = ((omega arith, omega arith), c .before .loop .inv .3)
 
 pub whole-spec : {M : Type 1} → statement M
 whole-spec =
