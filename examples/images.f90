@@ -1,5 +1,5 @@
-!> bind LOG: binds the draws of four images into a log.
-program bind
+!> images LOG: binds the draws of four images into a log.
+program bind_images
   use, intrinsic :: iso_c_binding, only: c_int8_t, c_int32_t, c_double
   use nahuitepol
   implicit none
@@ -13,7 +13,7 @@ program bind
   character(len=4096) :: name
   integer :: image, k, numbers, unit
 
-  if (command_argument_count() /= 1) error stop 'usage: bind LOG'
+  if (command_argument_count() /= 1) error stop 'usage: images LOG'
   call random_seed(size=numbers)
   do image = 1, images  ! each round stands for an image with a stream of its own
     call random_seed(put=[(seeds(image), k = 1, numbers)])
@@ -27,4 +27,4 @@ program bind
   open(newunit=unit, file=name, access='stream', form='unformatted', status='replace')
   write(unit) log(:answer%length)
   print '(a, i0, a)', 'a log of ', answer%length, ' bytes'
-end program bind
+end program bind_images
