@@ -1,15 +1,9 @@
 -- The lines that `bind` prints. Assumes nothing.
 use mathlib.Core.List.{List, [], _∷_, _++_}
 use Prim.Native.Nat.{ℕ}
-use Rattle.lines.specs.Digits.{digits}
+use Rattle.lines.specs.Line.{lineEnd}
 
--- BYTES AND WORDS: a blank, the end of a line
-abbrev pub blank : List ℕ
-blank = 32 ∷ []
-
-abbrev pub lineEnd : List ℕ
-lineEnd = 10 ∷ []
-
+-- WORDS
 -- "bound "
 abbrev pub boundWord : List ℕ
 boundWord = 98 ∷ 111 ∷ 117 ∷ 110 ∷ 100 ∷ 32 ∷ []
@@ -36,11 +30,7 @@ usageWord =
     117 ∷ 115 ∷ 97 ∷ 103 ∷ 101 ∷ 58 ∷ 32 ∷ 98 ∷ 105 ∷ 110 ∷ 100 ∷ 32 ∷ 76 ∷ 79 ∷ 71 ∷ 32 ∷ 73 ∷ 68 ∷ 32
     ∷ 70 ∷ 73 ∷ 76 ∷ 69 ∷ 32 ∷ 73 ∷ 68 ∷ 32 ∷ 70 ∷ 73 ∷ 76 ∷ 69 ∷ 32 ∷ 46 ∷ 46 ∷ []
 
--- LINES: a word and two numbers
-unfoldable pub numbersLine : List ℕ → ℕ → ℕ → List ℕ
-numbersLine w m n = (((w ++ digits m) ++ blank) ++ digits n) ++ lineEnd
-
--- a word and a name, which stands as it was given
+-- LINES beside those of two numbers (`numbersLine` of the lines): a word and a name, which stands as it was given
 unfoldable pub nameLine : List ℕ → List ℕ → List ℕ
 nameLine w name = (w ++ name) ++ lineEnd
 

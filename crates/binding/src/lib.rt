@@ -10,11 +10,10 @@
 ghost use mathlib.Core.Path.{_≡_};
 ghost use Prim.Native.Nat.{_+_, _≤_, _<_};
 ghost use lib.ListN.{length};
-ghost use Rattle.lines.specs.Digits.{digits};
-ghost use Rattle.lines.specs.Promise.{Laid};
+ghost use Rattle.lines.specs.Line.{numbersLine};
 ghost use Rattle.binding.specs.Ids.{limit, idOf};
 ghost use Rattle.binding.specs.Beside.{folderEnd, besideName};
-ghost use Rattle.binding.specs.Said.{boundWord, refusedWord, unreadWord, unwrittenWord, badIdWord, numbersLine, nameLine, usageLine};
+ghost use Rattle.binding.specs.Said.{boundWord, refusedWord, unreadWord, unwrittenWord, badIdWord, nameLine, usageLine};
 ghost use Rattle.binding.specs.Promise.{longest, Said};
 ghost use Rattle.binding.specs.Inside.{next as Inside·next};
 
@@ -26,10 +25,6 @@ const LIMIT: u64 = 4294967296;
 
 // Ids are written in base ten.
 const BASE: u64 = 10;
-
-const BLANK: u8 = b' ';
-
-const LINE_END: u8 = b'\n';
 
 const SLASH: u8 = b'/';
 
@@ -89,7 +84,7 @@ pub fn bound_line(out: &mut [u8], replicates: u32, bytes: u32) -> usize
     ensures text { λ r. ⌜ Said (numbersLine boundWord replicates bytes) (now (out .entry)) r (now (out .exit)) ⌝ }
     ensures short { λ r. ⌜ r ≤ longest ⌝ }
 {
-    numbers(out, b"bound ", replicates, bytes)
+    lines::numbers_line(out, 0, b"bound ", replicates, bytes)
 }
 
 // The refusal and its entry.
@@ -97,7 +92,7 @@ pub fn refused_line(out: &mut [u8], refusal: u32, entry: u32) -> usize
     ensures text { λ r. ⌜ Said (numbersLine refusedWord refusal entry) (now (out .entry)) r (now (out .exit)) ⌝ }
     ensures short { λ r. ⌜ r ≤ longest ⌝ }
 {
-    numbers(out, b"refused ", refusal, entry)
+    lines::numbers_line(out, 0, b"refused ", refusal, entry)
 }
 
 // A file that cannot be read.
@@ -133,7 +128,7 @@ pub fn usage_line(out: &mut [u8]) -> usize
     ensures short { λ r. ⌜ r ≤ longest ⌝ }
 {
     let p1 = lines::word(out, 0, b"usage: bind LOG ID FILE ID FILE ..");
-    lines::byte(out, p1, LINE_END)
+    lines::byte(out, p1, lines::LINE_END)
 }
 
 // A name beside the log, in its folder: with two numbers, so that others are unlikely to have it.
@@ -165,29 +160,11 @@ fn folder(path: &[u8]) -> usize
     end
 }
 
-// A word and two numbers.
-fn numbers(out: &mut [u8], word: &[u8], m: u32, n: u32) -> usize
-    ensures { λ r. ⌜ Said (numbersLine (now (word .entry)) m n) (now (out .entry)) r (now (out .exit)) ⌝ }
-{
-    let p1 = lines::word(out, 0, word);
-    let p2 = figure(out, p1, m);
-    let p3 = lines::byte(out, p2, BLANK);
-    let p4 = figure(out, p3, n);
-    lines::byte(out, p4, LINE_END)
-}
-
 // A word and a name.
 fn named(out: &mut [u8], word: &[u8], name: &[u8]) -> usize
     ensures { λ r. ⌜ Said (nameLine (now (word .entry)) (now (name .entry))) (now (out .entry)) r (now (out .exit)) ⌝ }
 {
     let p1 = lines::word(out, 0, word);
     let p2 = lines::word(out, p1, name);
-    lines::byte(out, p2, LINE_END)
-}
-
-// A 32-bit number.
-fn figure(out: &mut [u8], place: usize, n: u32) -> usize
-    ensures { λ r. ⌜ Laid (now (out .entry)) place (digits n) r (now (out .exit)) ⌝ }
-{
-    lines::number(out, place, n as u64)
+    lines::byte(out, p2, lines::LINE_END)
 }

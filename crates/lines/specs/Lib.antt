@@ -3,6 +3,8 @@
 pub mod Put
 -- the decimal digits of a number, and the number of some digits
 pub mod Digits
+-- lines that several texts have
+pub mod Line
 -- what each public call promises, and that it determines the outcome
 pub mod Promise
 -- digits of some numbers, computed

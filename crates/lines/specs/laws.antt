@@ -5,5 +5,7 @@ pub mod Put
 pub mod Digits
 -- digits written to the end of an array, the last one first
 pub mod Spelling
+-- how long a line is
+pub mod Line
 -- calls one after another
 pub mod Promise

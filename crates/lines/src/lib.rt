@@ -1,4 +1,4 @@
-// Text put into a lent buffer: bytes, words and decimal numbers.
+// Text put into a lent buffer: bytes, words, decimal numbers, and lines of a word and two numbers.
 //
 // Each call puts its bytes from a place on, as far as the buffer reaches, leaves every other byte as it was, and
 // answers the place after them, also where that lies past the buffer's end. So a text is put by calls one after
@@ -8,6 +8,7 @@ ghost use mathlib.Core.List.{[], _∷_};
 ghost use Prim.Native.Nat.{_+_, _≤_, _<_, min};
 ghost use lib.ListN.{length, drop};
 ghost use Rattle.lines.specs.Digits.{digitByte, digits};
+ghost use Rattle.lines.specs.Line.{numbersLine};
 ghost use Rattle.lines.specs.Put.{lastPlace};
 ghost use Rattle.lines.specs.Promise.{Laid};
 ghost use Rattle.lines.specs.laws.Digits.{mostDigits};
@@ -20,6 +21,10 @@ const MOST_DIGITS: usize = 20;
 
 // Numbers are written in base ten.
 const BASE: u64 = 10;
+
+pub const BLANK: u8 = b' ';
+
+pub const LINE_END: u8 = b'\n';
 
 // Puts one byte, as a blank or the end of a line.
 pub fn byte(out: &mut [u8], at: usize, b: u8) -> usize
@@ -51,6 +56,24 @@ pub fn number(out: &mut [u8], at: usize, n: u64) -> usize
     let mut text = [0u8; MOST_DIGITS];
     let first = spell(&mut text, n);
     word(out, at, &text[first..])
+}
+
+// Puts the decimal digits of a 32-bit number.
+pub fn figure(out: &mut [u8], at: usize, n: u32) -> usize
+    ensures { λ r. ⌜ Laid (now (out .entry)) at (digits n) r (now (out .exit)) ⌝ }
+{
+    number(out, at, n as u64)
+}
+
+// Puts a line of the word w, which ends in a blank, and two 32-bit numbers.
+pub fn numbers_line(out: &mut [u8], at: usize, w: &[u8], m: u32, n: u32) -> usize
+    ensures { λ r. ⌜ Laid (now (out .entry)) at (numbersLine (now (w .entry)) m n) r (now (out .exit)) ⌝ }
+{
+    let p1 = word(out, at, w);
+    let p2 = figure(out, p1, m);
+    let p3 = byte(out, p2, BLANK);
+    let p4 = figure(out, p3, n);
+    byte(out, p4, LINE_END)
 }
 
 // The place after one byte at `at`.

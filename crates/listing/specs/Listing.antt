@@ -4,6 +4,7 @@ use mathlib.Core.List.{List, [], _∷_, _++_}
 use Prim.Native.Nat.{ℕ, zero, suc}
 use lib.ListN.{length}
 use Rattle.lines.specs.Digits.{digits}
+use Rattle.lines.specs.Line.{blank, lineEnd, numbersLine}
 use Rattle.drawlog.specs.Log.{count, idAt}
 use Rattle.drawlog.specs.Refusal.{causeOf, accepted}
 use Rattle.pairs.specs.Check.{probed, Pair, pairsOf, pairs, unprobed}
@@ -13,13 +14,7 @@ use Rattle.pairs.specs.Promise.{step}
 abbrev pub draws : ℕ
 draws = 32
 
--- BYTES AND WORDS: a blank, the end of a line
-abbrev pub blank : List ℕ
-blank = 32 ∷ []
-
-abbrev pub lineEnd : List ℕ
-lineEnd = 10 ∷ []
-
+-- WORDS
 -- "replicates "
 abbrev pub replicatesWord : List ℕ
 replicatesWord = 114 ∷ 101 ∷ 112 ∷ 108 ∷ 105 ∷ 99 ∷ 97 ∷ 116 ∷ 101 ∷ 115 ∷ 32 ∷ []
@@ -55,11 +50,11 @@ unprobedLine id = (unprobedWord ++ digits id) ++ lineEnd
 
 -- the end gives pairs and unprobed owners
 unfoldable pub totalLine : ℕ → ℕ → List ℕ
-totalLine k u = (((totalWord ++ digits k) ++ blank) ++ digits u) ++ lineEnd
+totalLine k u = numbersLine totalWord k u
 
 -- a refused log: number and entry
 unfoldable pub refusedLine : ℕ → ℕ → List ℕ
-refusedLine r k = (((refusedWord ++ digits r) ++ blank) ++ digits k) ++ lineEnd
+refusedLine r k = numbersLine refusedWord r k
 
 -- THE LISTING
 unfoldable pub pairLines : List Pair → List ℕ

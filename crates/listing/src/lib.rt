@@ -11,7 +11,6 @@
 ghost use mathlib.Core.Path.{_≡_};
 ghost use Prim.Native.Nat.{_+_, _*_, _-_, _≤_, _<_};
 ghost use lib.ListN.{length};
-ghost use Rattle.lines.specs.Digits.{digits};
 ghost use Rattle.lines.specs.Promise.{Laid};
 ghost use Rattle.drawlog.specs.Log.{count};
 ghost use Rattle.pairs.specs.Check.{pairs, unprobed};
@@ -37,10 +36,6 @@ const PAIR: usize = pairs::PAIR;
 const WORK: usize = 256;
 
 const RESULT: usize = 16128;
-
-const BLANK: u8 = b' ';
-
-const LINE_END: u8 = b'\n';
 
 // How many pairs are listed so far, and the place after them.
 struct Done {
@@ -170,14 +165,14 @@ fn pair_line(result: &[u32], k: u32, out: &mut [u8], place: usize) -> usize
     ensures { λ r. ⌜ Laid (now (out .entry)) place (pairLine (pairIn (now (result .entry)) k)) r (now (out .exit)) ⌝ }
 {
     let i = PAIR * wide(k);
-    let p1 = figure(out, place, result[i]);
-    let p2 = lines::byte(out, p1, BLANK);
-    let p3 = figure(out, p2, result[i + 1]);
-    let p4 = lines::byte(out, p3, BLANK);
-    let p5 = figure(out, p4, result[i + 2]);
-    let p6 = lines::byte(out, p5, BLANK);
-    let p7 = figure(out, p6, result[i + 3]);
-    lines::byte(out, p7, LINE_END)
+    let p1 = lines::figure(out, place, result[i]);
+    let p2 = lines::byte(out, p1, lines::BLANK);
+    let p3 = lines::figure(out, p2, result[i + 1]);
+    let p4 = lines::byte(out, p3, lines::BLANK);
+    let p5 = lines::figure(out, p4, result[i + 2]);
+    let p6 = lines::byte(out, p5, lines::BLANK);
+    let p7 = lines::figure(out, p6, result[i + 3]);
+    lines::byte(out, p7, lines::LINE_END)
 }
 
 // The head: replicates, and draws of a probe.
@@ -185,10 +180,10 @@ fn head(out: &mut [u8], place: usize, replicates: u32) -> usize
     ensures { λ r. ⌜ Laid (now (out .entry)) place (headLine replicates) r (now (out .exit)) ⌝ }
 {
     let p1 = lines::word(out, place, b"replicates ");
-    let p2 = figure(out, p1, replicates);
+    let p2 = lines::figure(out, p1, replicates);
     let p3 = lines::word(out, p2, b" probe ");
-    let p4 = figure(out, p3, DRAWS);
-    lines::byte(out, p4, LINE_END)
+    let p4 = lines::figure(out, p3, DRAWS);
+    lines::byte(out, p4, lines::LINE_END)
 }
 
 // An owner that is unprobed.
@@ -196,35 +191,20 @@ fn unprobed_line(out: &mut [u8], place: usize, id: u32) -> usize
     ensures { λ r. ⌜ Laid (now (out .entry)) place (unprobedLine id) r (now (out .exit)) ⌝ }
 {
     let p1 = lines::word(out, place, b"unprobed ");
-    let p2 = figure(out, p1, id);
-    lines::byte(out, p2, LINE_END)
+    let p2 = lines::figure(out, p1, id);
+    lines::byte(out, p2, lines::LINE_END)
 }
 
 // The end: pairs, and unprobed owners.
 fn total_line(out: &mut [u8], place: usize, total: u32, missed: u32) -> usize
     ensures { λ r. ⌜ Laid (now (out .entry)) place (totalLine total missed) r (now (out .exit)) ⌝ }
 {
-    let p1 = lines::word(out, place, b"total ");
-    let p2 = figure(out, p1, total);
-    let p3 = lines::byte(out, p2, BLANK);
-    let p4 = figure(out, p3, missed);
-    lines::byte(out, p4, LINE_END)
+    lines::numbers_line(out, place, b"total ", total, missed)
 }
 
 // The one line of a refused log: number and entry.
 fn refused_line(out: &mut [u8], place: usize, refusal: u32, entry: u32) -> usize
     ensures { λ r. ⌜ Laid (now (out .entry)) place (refusedLine refusal entry) r (now (out .exit)) ⌝ }
 {
-    let p1 = lines::word(out, place, b"refused ");
-    let p2 = figure(out, p1, refusal);
-    let p3 = lines::byte(out, p2, BLANK);
-    let p4 = figure(out, p3, entry);
-    lines::byte(out, p4, LINE_END)
-}
-
-// A 32-bit number.
-fn figure(out: &mut [u8], place: usize, n: u32) -> usize
-    ensures { λ r. ⌜ Laid (now (out .entry)) place (digits n) r (now (out .exit)) ⌝ }
-{
-    lines::number(out, place, n as u64)
+    lines::numbers_line(out, place, b"refused ", refusal, entry)
 }

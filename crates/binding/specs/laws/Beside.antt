@@ -5,10 +5,9 @@ use Prim.Native.Nat.{ℕ, suc, _+_, _-_, _^_, _≤_, _<_}
 use native.Mathlib.Numerals.{add-one}
 use native.Mathlib.Omega.{arith}
 use borrow.Author.Tests.{eq-eqb, ne-eqb}
-use lib.ListN.{length, take, length-append, length-take}
+use lib.ListN.{length, length-append, length-take}
 use Rattle.basics.specs.Lists.{at}
 use Rattle.basics.specs.Search.{greatest}
-use Rattle.lines.specs.Digits.{digits}
 use Rattle.lines.specs.laws.Digits.{digits-fit}
 use Rattle.lines.specs.laws.Put.{after-short}
 use Rattle.binding.specs.Beside.{slash, slashBefore, folderEnd, besideName}

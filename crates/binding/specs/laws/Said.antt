@@ -1,23 +1,15 @@
 -- No line is longer than its name and 64 bytes more. Assumes nothing.
 use mathlib.Core.Path.{_≡_}
 use mathlib.Core.List.{List}
-use Prim.Native.Nat.{ℕ, _+_, _^_, _≤_, _<_}
+use Prim.Native.Nat.{ℕ, _+_, _≤_, _<_}
 use native.Mathlib.Omega.{arith}
 use lib.ListN.{length, length-append}
-use Rattle.lines.specs.Digits.{digits}
-use Rattle.lines.specs.laws.Digits.{digits-most}
+use Rattle.lines.specs.Line.{numbersLine}
+use Rattle.lines.specs.laws.Line.{numbers-length}
 use Rattle.lines.specs.Put.{after}
 use Rattle.lines.specs.laws.Put.{after-short}
-use Rattle.binding.specs.Said.{numbersLine, nameLine, usageLine}
+use Rattle.binding.specs.Said.{nameLine, usageLine}
 use Rattle.binding.specs.Promise.{longest, Said}
-
--- a number of 32 bits has at most ten digits
-figure : (n : ℕ) → n < 2 ^ 32 → length (digits n) ≤ 10
-figure n h = digits-most 9 n (omega arith)
-
-numbers-length : (w : List ℕ) (m n : ℕ) → m < 2 ^ 32 → n < 2 ^ 32 → length (numbersLine w m n) ≤ 22 + length w
-unfolding numbersLine
-numbers-length w m n h l = simp length-append (omega (arith, figure m h, figure n l))
 
 name-length : (w name : List ℕ) → length (nameLine w name) ≡ 1 + length w + length name
 unfolding nameLine
@@ -28,7 +20,7 @@ unfolding after
 after-some w h = omega arith
 
 module _ {d : List ℕ} {r : ℕ} {d′ : List ℕ} where
-  pub numbers-short : (w : List ℕ) (m n : ℕ) → m < 2 ^ 32 → n < 2 ^ 32 → Said (numbersLine w m n) d r d′ → r ≤ 22 + length w
+  pub numbers-short : (w : List ℕ) (m n : ℕ) → m < 4294967296 → n < 4294967296 → Said (numbersLine w m n) d r d′ → r ≤ 22 + length w
   numbers-short w m n h l s = omega (arith, s .answer, after-short 0 (numbersLine w m n), numbers-length w m n h l)
 
   pub name-short : (w name : List ℕ) → Said (nameLine w name) d r d′ → r ≤ 1 + length w + length name

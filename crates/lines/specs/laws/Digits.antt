@@ -89,6 +89,10 @@ mostDigits = 20
 pub digits-fit : (n : ℕ) → n < 2 ^ 64 → length (digits n) ≤ mostDigits
 digits-fit n h = digits-most 19 n (omega arith)
 
+-- and one of 32 bits at most ten
+pub digits-word : (n : ℕ) → n < 4294967296 → length (digits n) ≤ 10
+digits-word n h = digits-most 9 n (omega arith)
+
 -- WHICH BYTES: from 48 to 57, at every place
 pub record IsDigit (b : ℕ) : Type 0 where
   pub least : zeroByte ≤ b

@@ -1,57 +1,22 @@
--- `total_line` meets its contract: five texts, one after another.
+-- `total_line` meets its contract: it is a line of a word and two numbers.
 -- Assumes nothing.
 use borrow.Author.Needs.{needs}
-use Prim.Native.Nat.{_≤_}
-use native.Mathlib.Omega.{arith}
-use lib.ListN.{length}
-use Rattle.lines.specs.Put.{lastPlace}
-use Rattle.lines.specs.laws.Promise.{laid-then}
 use Rattle.listing.specs.Listing.{totalLine}
 use Rattle.listing.proofs.total_line.Statement.{statement}
 use Rattle.listing.proofs.total_line.Tie as tie
 
-slice-aggregate-word : tie.Need-slice-aggregate-word
-slice-aggregate-word c = search needs
+slice-aggregate-numbers-line : tie.Need-slice-aggregate-numbers-line
+slice-aggregate-numbers-line c = search needs
 
-word-requires : tie.Need-word-requires
-word-requires c κs = search needs
-
-figure-requires : tie.Need-figure-requires
-figure-requires c κs = search needs
-
-byte-requires : tie.Need-byte-requires
-byte-requires c κs = search needs
-
-figure-requires-2 : tie.Need-figure-requires-2
-figure-requires-2 c κs = search needs
-
-byte-requires-2 : tie.Need-byte-requires-2
-byte-requires-2 c κs = search needs
+numbers-line-requires : tie.Need-numbers-line-requires
+numbers-line-requires c κs = search needs
 
 same-length : tie.Need-same-length
 same-length c = search needs
 
 returns : tie.Need-returns
 unfolding totalLine
-returns c =
-    let byte2· = c .before .before in
-    let figure2· = byte2· .before .before .before .before in
-    let byte· = figure2· .before .before .before .before in
-    let figure· = byte· .before .before .before .before in
-    let word· = figure· .before .before .before .before in
-    let s = word· .before .before .before .before in
-    let fit : length (s .args .out .now) ≤ lastPlace = omega arith in
-    laid-then fit (laid-then fit (laid-then fit (laid-then fit (word· .word .ensures) (figure· .figure .ensures)) (byte· .byte .ensures)) (figure2· .figure2 .ensures)) (byte2· .byte2 .ensures)
+returns c = c .before .before .numbers-line .ensures
 
 pub total-line-spec : {M : Type 1} → statement M
-total-line-spec =
-    tie.close
-    (tie.spec
-    slice-aggregate-word
-    word-requires
-    figure-requires
-    byte-requires
-    figure-requires-2
-    byte-requires-2
-    same-length
-    returns)
+total-line-spec = tie.close (tie.spec slice-aggregate-numbers-line numbers-line-requires same-length returns)

@@ -9,13 +9,12 @@ use native.Mathlib.Omega.{arith}
 use lib.ListN.{length, length-append}
 use Rattle.basics.specs.laws.Lists.{Bytes}
 use Rattle.basics.specs.laws.Tests.{bool-case, equal-or-not}
-use Rattle.lines.specs.Digits.{digits}
-use Rattle.lines.specs.laws.Digits.{digits-most}
+use Rattle.lines.specs.laws.Digits.{digits-word}
+use Rattle.lines.specs.laws.Line.{numbers-length}
 use Rattle.lines.specs.laws.Put.{after-short}
 use Rattle.drawlog.specs.declared.Tested.{Tested}
 use Rattle.drawlog.specs.Log.{count, idAt}
 use Rattle.drawlog.specs.Refusal.{causeOf}
-use Rattle.drawlog.specs.Promise.{testedOf}
 use Rattle.drawlog.specs.laws.Log.{id-below}
 use Rattle.drawlog.specs.laws.Refusal.{accepted-is, cause-small}
 use Rattle.drawlog.specs.laws.Promise.{tested-yes}
@@ -24,36 +23,32 @@ use Rattle.pairs.specs.Promise.{step}
 use Rattle.pairs.specs.laws.Check.{pairs-next, pairs-most, unprobed-le}
 use Rattle.pairs.specs.laws.Owners.{Each}
 use Rattle.pairs.specs.laws.Sizes.{Small, of-small}
-use Rattle.listing.specs.Listing.{draws, headLine, pairLine, pairLines, unprobedLine, totalLine, refusedLine, ownerText, ownersText, acceptedText, listing}
+use Rattle.listing.specs.Listing.{draws, totalWord, refusedWord, headLine, pairLine, pairLines, unprobedLine, totalLine, refusedLine, ownerText, ownersText, acceptedText, listing}
 use Rattle.listing.specs.Promise.{longest, Written}
 use Rattle.listing.specs.laws.Text.{listing-accepted, listing-refused}
-
--- a number of 32 bits has at most ten digits
-figure : (n : ℕ) → n < 4294967296 → length (digits n) ≤ 10
-figure n h = digits-most 9 n (omega arith)
 
 -- ONE LINE
 pair-length : (q : Pair) → Small q → length (pairLine q) ≤ 44
 unfolding pairLine
 pair-length q u =
     simp length-append
-    (omega (arith, figure (q .owner) (u .owner), figure (q .other) (u .other), figure (q .first) (u .first), figure (q .number) (u .number)))
+    (omega (arith, digits-word (q .owner) (u .owner), digits-word (q .other) (u .other), digits-word (q .first) (u .first), digits-word (q .number) (u .number)))
 
 unprobed-length : (id : ℕ) → id < 4294967296 → length (unprobedLine id) ≤ 20
 unfolding unprobedLine
-unprobed-length id h = simp length-append (omega (arith, figure id h))
+unprobed-length id h = simp length-append (omega (arith, digits-word id h))
 
 head-length : (c : ℕ) → c < 4294967296 → length (headLine c) ≤ 39
 unfolding headLine
-head-length c h = simp length-append (omega (arith, figure c h, figure draws (omega arith)))
+head-length c h = simp length-append (omega (arith, digits-word c h, digits-word draws (omega arith)))
 
 total-length : (k u : ℕ) → k < 4294967296 → u < 4294967296 → length (totalLine k u) ≤ 28
 unfolding totalLine
-total-length k u h l = simp length-append (omega (arith, figure k h, figure u l))
+total-length k u h l = numbers-length totalWord k u h l
 
 refused-length : (r k : ℕ) → r < 4294967296 → k < 4294967296 → length (refusedLine r k) ≤ 30
 unfolding refusedLine
-refused-length r k h l = simp length-append (omega (arith, figure r h, figure k l))
+refused-length r k h l = numbers-length refusedWord r k h l
 
 -- ALL LINES
 lines-length : (qs : List Pair) → Each Small qs → length (pairLines qs) ≤ 44 * length qs

@@ -1,14 +1,14 @@
--- `numbers` meets its contract: five texts, one after another.
+-- `lines::numbers_line` meets its contract: five texts, one after another.
 -- Assumes nothing.
 use borrow.Author.Needs.{needs}
 use Prim.Native.Nat.{_≤_}
 use native.Mathlib.Omega.{arith}
 use lib.ListN.{length}
 use Rattle.lines.specs.Put.{lastPlace}
 use Rattle.lines.specs.laws.Promise.{laid-then}
-use Rattle.binding.specs.Said.{numbersLine}
-use Rattle.binding.proofs.numbers.Statement.{statement}
-use Rattle.binding.proofs.numbers.Tie as tie
+use Rattle.lines.specs.Line.{numbersLine}
+use Rattle.lines.proofs.numbers_line.Statement.{statement}
+use Rattle.lines.proofs.numbers_line.Tie as tie
 
 word-requires : tie.Need-word-requires
 word-requires c κs = search needs
@@ -40,8 +40,8 @@ returns c =
     let fit : length (s .args .out .now) ≤ lastPlace = omega arith in
     laid-then fit (laid-then fit (laid-then fit (laid-then fit (word· .word .ensures) (figure· .figure .ensures)) (byte· .byte .ensures)) (figure2· .figure2 .ensures)) (byte2· .byte2 .ensures)
 
-pub numbers-spec : {M : Type 1} → statement M
-numbers-spec =
+pub numbers-line-spec : {M : Type 1} → statement M
+numbers-line-spec =
     tie.close
     (tie.spec
     word-requires
