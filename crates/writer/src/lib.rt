@@ -5,7 +5,6 @@
 //            the log's parts, one after another        module put
 //
 // Sizes, mark and limits are those of `drawlog::Log`, by which logs are read.
-ghost use lib.ListN.{length};
 ghost use Rattle.writer.specs.Promise.{Writing};
 
 mod put; // put.rt: the parts of a log
