@@ -68,7 +68,20 @@ unfolding least
 least-ext p q zero s h = refl
 least-ext p q (suc n) s h = λ k. cond (h s (omega arith) k) s (least-ext p q n (suc s) (λ j l. h j (omega arith)) k)
 
--- THE GREATEST
+-- THE GREATEST, one number after another
+pub greatest-none : (p : ℕ → Bool) → greatest p 0 ≡ 0
+unfolding greatest
+greatest-none p = refl
+
+pub greatest-new : (p : ℕ → Bool) (n : ℕ) → p (suc n) ≡ true → greatest p (suc n) ≡ suc n
+unfolding greatest
+greatest-new p n e = rw e
+
+pub greatest-old : (p : ℕ → Bool) (n : ℕ) → p (suc n) ≡ false → greatest p (suc n) ≡ greatest p n
+unfolding greatest
+greatest-old p n e = rw e
+
+-- what it is
 pub greatest-is : (p : ℕ → Bool) (n k : ℕ) → k ≤ n → p k ≡ true → ((j : ℕ) → k < j → j ≤ n → p j ≡ false) → greatest p n ≡ k
 unfolding greatest
 greatest-is p zero k h t none = omega arith

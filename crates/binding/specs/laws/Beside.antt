@@ -1,5 +1,5 @@
 -- Laws of a folder's end, and of a name beside a log. Assumes nothing.
-use mathlib.Core.Path.{_≡_, refl, sym, ap, _∙_}
+use mathlib.Core.Path.{_≡_, sym, ap, _∙_}
 use mathlib.Core.List.{List}
 use Prim.Native.Nat.{ℕ, suc, _+_, _-_, _^_, _≤_, _<_}
 use native.Mathlib.Numerals.{add-one}
@@ -8,6 +8,7 @@ use borrow.Author.Tests.{eq-eqb, ne-eqb}
 use lib.ListN.{length, length-append, length-take}
 use Rattle.basics.specs.Lists.{at}
 use Rattle.basics.specs.Search.{greatest}
+use Rattle.basics.specs.laws.Search.{greatest-none, greatest-new, greatest-old}
 use Rattle.lines.specs.laws.Digits.{digits-fit}
 use Rattle.lines.specs.laws.Put.{after-short}
 use Rattle.binding.specs.Beside.{slash, slashBefore, folderEnd, besideName}
@@ -23,16 +24,23 @@ back : (i : ℕ) → suc i - 1 ≡ i
 back i = omega arith
 
 pub seen-none : (w : List ℕ) → Seen w 0 0
-unfolding greatest
-seen-none w = record { inside = omega arith; below = omega arith; is = refl }
+seen-none w = record { inside = omega arith; below = omega arith; is = sym (greatest-none (slashBefore w)) }
 
 pub seen-slash : {w : List ℕ} {i k : ℕ} → Seen w i k → i < length w → at w i ≡ slash → Seen w (i + 1) (i + 1)
-unfolding greatest
-seen-slash {w} {i} a h e = record { inside = omega arith; below = omega arith; is = rw (add-one, eq-eqb (at w (suc i - 1)) slash (ap (at w) (back i) ∙ e)) }
+seen-slash {w} {i} a h e =
+    record {
+      inside = omega arith;
+      below = omega arith;
+      is = rw add-one (sym (greatest-new (slashBefore w) i (eq-eqb (at w (suc i - 1)) slash (ap (at w) (back i) ∙ e))));
+    }
 
 pub seen-other : {w : List ℕ} {i k : ℕ} → Seen w i k → i < length w → (at w i ≡ slash → ⊥) → Seen w (i + 1) k
-unfolding greatest
-seen-other {w} {i} a h e = record { inside = omega arith; below = omega (arith, a .below); is = rw (add-one, ne-eqb (at w (suc i - 1)) slash (λ g. e (ap (at w) (sym (back i)) ∙ g))) (a .is) }
+seen-other {w} {i} a h e =
+    record {
+      inside = omega arith;
+      below = omega (arith, a .below);
+      is = a .is ∙ rw add-one (sym (greatest-old (slashBefore w) i (ne-eqb (at w (suc i - 1)) slash (λ g. e (ap (at w) (sym (back i)) ∙ g)))));
+    }
 
 pub seen-all : {w : List ℕ} {i k : ℕ} → Seen w i k → length w ≤ i → k ≡ folderEnd w
 unfolding folderEnd

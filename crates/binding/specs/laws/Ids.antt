@@ -13,15 +13,10 @@ use lib.Seq.{drop-cons}
 use Rattle.basics.specs.Lists.{at}
 use Rattle.basics.specs.laws.Tests.{bool-case, le-or-lt}
 use Rattle.lines.specs.Digits.{zeroByte, digitByte, valueOn, value}
+use Rattle.lines.specs.laws.Digits.{value-none, value-more, value-is, value-grows}
 use Rattle.binding.specs.declared.Id.{Id}
 use Rattle.binding.specs.Ids.{limit, isDigit, allDigits, isId, idOf}
 use Rattle.binding.specs.Inside.{none, idOn, next}
-
--- digits behind a number make it no smaller
-value-grows : (v : ℕ) (w : List ℕ) → v ≤ valueOn v w
-unfolding valueOn
-value-grows v [] = omega arith
-value-grows v (b ∷ w) = omega (arith, value-grows (v * 10 + (b - zeroByte)) w)
 
 -- from the limit on there is no id
 past-limit : (t : Bool) (n : ℕ) → limit ≤ n → _≡_ {A = Id} (cond (t && ltb n limit) (record { good = true; value = n }) none) none
@@ -34,8 +29,8 @@ on-limit v w h = past-limit (allDigits w) (valueOn v w) (omega (arith, value-gro
 
 -- one byte more
 on-digit : (v b : ℕ) (w : List ℕ) → isDigit b ≡ true → idOn v (b ∷ w) ≡ idOn (v * 10 + (b - zeroByte)) w
-unfolding idOn allDigits valueOn
-on-digit v b w e = rw e
+unfolding idOn allDigits
+on-digit v b w e = rw (e, value-more v b w)
 
 on-other : (v b : ℕ) (w : List ℕ) → isDigit b ≡ false → idOn v (b ∷ w) ≡ none
 unfolding idOn allDigits
@@ -91,16 +86,16 @@ read-more {w} {i} {v} a h e =
 
 -- a text of one byte or more
 id-some : (w : List ℕ) → 0 < length w → idOf w ≡ idOn 0 w
-unfolding idOf isId idOn value
-id-some w h = rw (lt-ltb 0 (length w) h)
+unfolding idOf isId idOn
+id-some w h = rw (lt-ltb 0 (length w) h, value-is w)
 
 pub read-empty : (w : List ℕ) → length w ≡ 0 → idOf w ≡ none
 unfolding idOf isId
 read-empty w e = rw (le-ltb 0 (length w) (omega arith))
 
 alone : (v : ℕ) → v < limit → idOn v [] ≡ record { good = true; value = v }
-unfolding idOn allDigits valueOn
-alone v g = rw (lt-ltb v limit g)
+unfolding idOn allDigits
+alone v g = rw (value-none v, lt-ltb v limit g)
 
 module _ {w : List ℕ} {i v : ℕ} (a : Read w i v) (h : length w ≤ i) (l : 0 < i) where
   rest : idOf w ≡ idOn v []

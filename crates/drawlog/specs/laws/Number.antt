@@ -14,6 +14,10 @@ pub number-below : (s : List ℕ) → Bytes s → (o : ℕ) → number s o < 429
 unfolding number
 number-below s b o = omega (arith, b o, b (o + 1), b (o + 2), b (o + 3))
 
+pub bytes-are : (n : ℕ) → bytesOf n ≡ n % 256 ∷ n / 256 % 256 ∷ n / 256 / 256 % 256 ∷ n / 256 / 256 / 256 % 256 ∷ []
+unfolding bytesOf
+bytes-are n = refl
+
 pub length-bytes : (n : ℕ) → length (bytesOf n) ≡ 4
 unfolding bytesOf
 length-bytes n = refl

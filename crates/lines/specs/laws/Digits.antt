@@ -43,6 +43,24 @@ module _ (P : ℕ → Type 0) (one : (n : ℕ) → n < 10 → P n) (more : (n : 
   by-digits n = below (suc n) n (omega arith)
 
 -- THE NUMBER ITSELF AGAIN: no digit is lost or exchanged
+pub value-none : (a : ℕ) → valueOn a [] ≡ a
+unfolding valueOn
+value-none a = refl
+
+pub value-more : (a b : ℕ) (w : List ℕ) → valueOn a (b ∷ w) ≡ valueOn (a * 10 + (b - zeroByte)) w
+unfolding valueOn
+value-more a b w = refl
+
+pub value-is : (w : List ℕ) → value w ≡ valueOn 0 w
+unfolding value
+value-is w = refl
+
+-- digits behind a number make it no smaller
+pub value-grows : (a : ℕ) (w : List ℕ) → a ≤ valueOn a w
+unfolding valueOn
+value-grows a [] = omega arith
+value-grows a (b ∷ w) = omega (arith, value-grows (a * 10 + (b - zeroByte)) w)
+
 value-append : (a : ℕ) (v w : List ℕ) → valueOn a (v ++ w) ≡ valueOn (valueOn a v) w
 unfolding valueOn
 value-append a [] w = refl

@@ -78,6 +78,10 @@ unfolding after
 after-short p w = omega arith
 
 -- it stops at the last place
+pub after-some : (p : ℕ) (w : List ℕ) → 0 < length w → 0 < after p w
+unfolding after
+after-some p w h = omega arith
+
 pub after-last : (p : ℕ) (w : List ℕ) → lastPlace ≤ p + length w → after p w ≡ lastPlace
 unfolding after
 after-last p w h = omega arith

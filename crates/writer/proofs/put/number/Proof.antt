@@ -1,6 +1,6 @@
 -- `put::number` meets its contract: the word's bytes are the number's.
 -- Assumes nothing.
-use Rattle.drawlog.specs.Number.{bytesOf}
+use Rattle.drawlog.specs.laws.Number.{bytes-are}
 use borrow.Author.Needs.{needs}
 use Rattle.writer.proofs.put.number.Statement.{statement}
 use Rattle.writer.proofs.put.number.Tie as tie
@@ -27,11 +27,10 @@ same-length : tie.Need-same-length
 same-length c = search needs
 
 returns : tie.Need-returns
-unfolding bytesOf
 returns c =
     let b = c .before .before in
     let l = b .before .before .before in
-    rw (l .before .before .before .low .ensures, l .before .before .low2 .ensures, l .before .low3 .ensures, l .low4 .ensures) at (b .bytes .ensures)
+    rw (bytes-are (b .before .before .before .before .before .before .before .before .args .n)) (rw (l .before .before .before .low .ensures, l .before .before .low2 .ensures, l .before .low3 .ensures, l .low4 .ensures) at (b .bytes .ensures))
 
 pub number-spec : {M : Type 1} → statement M
 number-spec =
