@@ -11,6 +11,13 @@ pub fn wide(a: u32) -> usize
     a as usize
 }
 
+// A 16-bit number as an index.
+pub fn wide16(a: u16) -> usize
+    ensures { λ r. ⌜ r ≡ a ⌝ }
+{
+    a as usize
+}
+
 // The smaller of two.
 pub fn smaller(a: usize, b: usize) -> usize
     ensures { λ r. ⌜ r ≡ min a b ⌝ }
@@ -34,6 +41,18 @@ pub fn less(a: usize, b: usize) -> usize
 
 // Clears the first n entries of a room, as far as it reaches.
 pub fn clear(room: &mut [u32], n: usize)
+    ensures { λ _. ⌜ now (room .exit) ≡ front (replicate (min n (length (now (room .entry)))) 0) (now (room .entry)) ⌝ }
+{
+    let end = smaller(n, room.len());
+    let mut i = 0;
+    while i < end {
+        room[i] = 0;
+        i += 1;
+    }
+}
+
+// The same in a room of 16-bit numbers.
+pub fn clear16(room: &mut [u16], n: usize)
     ensures { λ _. ⌜ now (room .exit) ≡ front (replicate (min n (length (now (room .entry)))) 0) (now (room .entry)) ⌝ }
 {
     let end = smaller(n, room.len());
