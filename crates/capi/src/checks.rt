@@ -15,15 +15,14 @@ pub struct Checked {
 pub extern "C" fn nahui_check(
     log: &[u8],
     p: u32,
-    suffix: &mut [u32],
-    shift: &mut [u32],
+    tables: &mut [u16],
     memory: &mut [u32],
     result: &mut [u32],
 ) -> Checked
-    ensures { λ r. ⌜ Checking (now (log .entry)) p (now (suffix .entry)) (now (shift .entry)) (now (memory .entry)) (now (result .entry)) (checkedSeen r)
-        (now (suffix .exit)) (now (shift .exit)) (now (memory .exit)) (now (result .exit)) ⌝ }
+    ensures { λ r. ⌜ Checking (now (log .entry)) p (now (tables .entry)) (now (memory .entry)) (now (result .entry)) (checkedSeen r)
+        (now (tables .exit)) (now (memory .exit)) (now (result .exit)) ⌝ }
 {
-    let checked = pairs::check(log, p, suffix, shift, memory, result);
+    let checked = pairs::check(log, p, tables, memory, result);
     Checked {
         refusal: checked.refusal,
         entry: checked.entry,

@@ -18,31 +18,29 @@ pub struct Searched {
 pub extern "C" fn nahui_plain(
     probe: &[u8],
     stream: &[u8],
-    suffix: &mut [u32],
-    shift: &mut [u32],
+    tables: &mut [u16],
     positions: &mut [u32],
 ) -> Searched
-    ensures answer { λ r. ⌜ Plainly (now (probe .entry)) (now (stream .entry)) (now (suffix .entry)) (now (shift .entry)) (now (positions .entry)) (answerSeen r)
-        (now (suffix .exit)) (now (shift .exit)) (now (positions .exit)) ⌝ }
+    ensures answer { λ r. ⌜ Plainly (now (probe .entry)) (now (stream .entry)) (now (tables .entry)) (now (positions .entry)) (answerSeen r)
+        (now (tables .exit)) (now (positions .exit)) ⌝ }
     ensures entry { λ r. ⌜ r .entry ≡ 0 ⌝ }
 {
-    for_c(scans::plain(probe, stream, suffix, shift, positions))
+    for_c(scans::plain(probe, stream, tables, positions))
 }
 
 #[no_mangle]
 pub extern "C" fn nahui_remember(
     probe: &[u8],
     stream: &[u8],
-    suffix: &mut [u32],
-    shift: &mut [u32],
+    tables: &mut [u16],
     memory: &mut [u32],
     positions: &mut [u32],
 ) -> Searched
-    ensures answer { λ r. ⌜ Rememberingly (now (probe .entry)) (now (stream .entry)) (now (suffix .entry)) (now (shift .entry)) (now (memory .entry)) (now (positions .entry)) (answerSeen r)
-        (now (suffix .exit)) (now (shift .exit)) (now (memory .exit)) (now (positions .exit)) ⌝ }
+    ensures answer { λ r. ⌜ Rememberingly (now (probe .entry)) (now (stream .entry)) (now (tables .entry)) (now (memory .entry)) (now (positions .entry)) (answerSeen r)
+        (now (tables .exit)) (now (memory .exit)) (now (positions .exit)) ⌝ }
     ensures entry { λ r. ⌜ r .entry ≡ 0 ⌝ }
 {
-    for_c(scans::remember(probe, stream, suffix, shift, memory, positions))
+    for_c(scans::remember(probe, stream, tables, memory, positions))
 }
 
 fn for_c(a: scans::Answer) -> Searched

@@ -4,8 +4,10 @@ use crate::pieces::verdict;
 use crate::pieces::wide;
 use crate::sample;
 
-// The entries of a work room that the longest probe needs.
+// What the longest probe needs of a room with an entry for each byte, and of the room for both tables.
 const WORK: usize = 4096;
+
+const PAIRED: usize = 8192;
 
 // The numbers that the pairs of three replicates take: 4 * 3 * 2.
 const RESULT: usize = 24;
@@ -25,8 +27,10 @@ fn of_probes(out: &mut [u8], at: usize) -> usize {
     probe(out, at, &[b'a'; 4097])
 }
 
-// The shortest memory room, and one that is too short.
+// The shortest rooms of a scan, and those that are too short.
 fn of_rooms(out: &mut [u8], at: usize) -> usize {
+    let at = paired(out, at, b"abab", &mut [0u16; 8]);
+    let at = paired(out, at, b"abab", &mut [0u16; 7]);
     let at = memory(out, at, b"abab", &mut [0u32; 4]);
     memory(out, at, b"abab", &mut [0u32; 3])
 }
@@ -55,12 +59,13 @@ fn probe(out: &mut [u8], at: usize, x: &[u8]) -> usize {
 fn by_tables(out: &mut [u8], at: usize, x: &[u8]) -> usize {
     let at = said(out, at, b" bytes: suffix ", suffix_refusal(x));
     let at = said(out, at, b", shift ", shift_refusal(x));
+    let at = said(out, at, b", both ", both_refusal(x));
     said(out, at, b", occurrence ", tables::occurrence(x).refusal)
 }
 
 // Puts what the scans say to a probe.
 fn by_scans(out: &mut [u8], at: usize, x: &[u8]) -> usize {
-    let at = said(out, at, b", plain ", plain_refusal(x));
+    let at = said(out, at, b", plain ", plain_refusal(x, &mut [0u16; PAIRED]));
     said(
         out,
         at,
@@ -85,20 +90,35 @@ fn shift_refusal(x: &[u8]) -> u32 {
     tables::shift(x, &mut [0u32; WORK])
 }
 
-// What the plain scan says to a probe, over an empty stream.
-fn plain_refusal(x: &[u8]) -> u32 {
-    let mut suffix = [0u32; WORK];
-    let mut shift = [0u32; WORK];
-    let a = scans::plain(x, b"", &mut suffix, &mut shift, &mut [0u32; 0]);
+// What the call for both tables says to a probe.
+fn both_refusal(x: &[u8]) -> u32 {
+    tables::both(x, &mut [0u16; PAIRED])
+}
+
+// What the plain scan says to a probe and a room for both tables, over an empty stream.
+fn plain_refusal(x: &[u8], tables: &mut [u16]) -> u32 {
+    let a = scans::plain(x, b"", tables, &mut [0u32; 0]);
     a.refusal
 }
 
 // What the remembering scan says to a probe and a memory room, over an empty stream.
 fn remember_refusal(x: &[u8], memory: &mut [u32]) -> u32 {
-    let mut suffix = [0u32; WORK];
-    let mut shift = [0u32; WORK];
-    let a = scans::remember(x, b"", &mut suffix, &mut shift, memory, &mut [0u32; 0]);
+    let mut tables = [0u16; PAIRED];
+    let a = scans::remember(x, b"", &mut tables, memory, &mut [0u32; 0]);
     a.refusal
+}
+
+// Puts what the plain scan says to a room for both tables.
+fn paired(out: &mut [u8], at: usize, x: &[u8], room: &mut [u16]) -> usize {
+    let at = labelled(out, at, b"probe of ", x.len() as u64);
+    let at = labelled(
+        out,
+        at,
+        b" bytes, room for both tables of ",
+        room.len() as u64,
+    );
+    let at = said(out, at, b" numbers: ", plain_refusal(x, room));
+    lines::byte(out, at, b'\n')
 }
 
 // Puts what the remembering scan says to a memory room.
@@ -128,10 +148,9 @@ fn draws(out: &mut [u8], at: usize, p: u32) -> usize {
 
 // What the overlap check says to a log and probes of p draws.
 fn check_refusal(log: &[u8], p: u32) -> u32 {
-    let mut suffix = [0u32; WORK];
-    let mut shift = [0u32; WORK];
+    let mut tables = [0u16; PAIRED];
     let mut memory = [0u32; WORK];
     let mut result = [0u32; RESULT];
-    let c = pairs::check(log, p, &mut suffix, &mut shift, &mut memory, &mut result);
+    let c = pairs::check(log, p, &mut tables, &mut memory, &mut result);
     c.refusal
 }

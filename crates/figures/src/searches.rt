@@ -3,13 +3,17 @@ use crate::pieces::counted;
 use crate::pieces::found;
 use crate::pieces::labelled;
 
-// The most bytes of a probe, and the most positions, in the rows that list positions.
+// The most bytes of a probe, and the most positions, in the rows that list positions; and what both tables take.
 const MOST: usize = 16;
+
+const PAIRED: usize = 32;
 
 // The long row: so many equal bytes, and how many of them are the probe.
 const STREAM: usize = 61440;
 
 const PROBE: usize = 256;
+
+const PROBE_PAIRED: usize = 512;
 
 // Puts the second table.
 pub(crate) fn put(out: &mut [u8], at: usize) -> usize {
@@ -74,27 +78,18 @@ fn names(out: &mut [u8], at: usize, probe: &[u8], stream: &[u8]) -> usize {
 
 // Puts what the plain scan answers.
 fn plain(out: &mut [u8], at: usize, probe: &[u8], stream: &[u8]) -> usize {
-    let mut suffix = [0u32; MOST];
-    let mut shift = [0u32; MOST];
+    let mut tables = [0u16; PAIRED];
     let mut positions = [0u32; MOST];
-    let a = scans::plain(probe, stream, &mut suffix, &mut shift, &mut positions);
+    let a = scans::plain(probe, stream, &mut tables, &mut positions);
     found(out, at, &positions, a)
 }
 
 // Puts what the remembering scan answers.
 fn remember(out: &mut [u8], at: usize, probe: &[u8], stream: &[u8]) -> usize {
-    let mut suffix = [0u32; MOST];
-    let mut shift = [0u32; MOST];
+    let mut tables = [0u16; PAIRED];
     let mut memory = [0u32; MOST];
     let mut positions = [0u32; MOST];
-    let a = scans::remember(
-        probe,
-        stream,
-        &mut suffix,
-        &mut shift,
-        &mut memory,
-        &mut positions,
-    );
+    let a = scans::remember(probe, stream, &mut tables, &mut memory, &mut positions);
     found(out, at, &positions, a)
 }
 
@@ -123,26 +118,17 @@ fn long(out: &mut [u8], at: usize, probe: &[u8], stream: &[u8]) -> usize {
 
 // Puts the numbers of the plain scan of a long stream.
 fn long_plain(out: &mut [u8], at: usize, probe: &[u8], stream: &[u8]) -> usize {
-    let mut suffix = [0u32; PROBE];
-    let mut shift = [0u32; PROBE];
+    let mut tables = [0u16; PROBE_PAIRED];
     let mut none = [0u32; 0];
-    let a = scans::plain(probe, stream, &mut suffix, &mut shift, &mut none);
+    let a = scans::plain(probe, stream, &mut tables, &mut none);
     counted(out, at, a)
 }
 
 // Puts the numbers of the remembering scan of a long stream.
 fn long_remember(out: &mut [u8], at: usize, probe: &[u8], stream: &[u8]) -> usize {
-    let mut suffix = [0u32; PROBE];
-    let mut shift = [0u32; PROBE];
+    let mut tables = [0u16; PROBE_PAIRED];
     let mut memory = [0u32; PROBE];
     let mut none = [0u32; 0];
-    let a = scans::remember(
-        probe,
-        stream,
-        &mut suffix,
-        &mut shift,
-        &mut memory,
-        &mut none,
-    );
+    let a = scans::remember(probe, stream, &mut tables, &mut memory, &mut none);
     counted(out, at, a)
 }

@@ -32,8 +32,11 @@ pub const LONGEST: usize = 200000;
 // The numbers of a pair in the check's result.
 const PAIR: usize = pairs::PAIR;
 
-// The entries of each work room, which are a probe's bytes, and of the result room: four for each pair of 64 replicates.
-const WORK: usize = 256;
+// The numbers of the rooms that the check takes: for both tables two for each byte of a probe, for the memory one, and for
+// the result four for each pair of 64 replicates.
+const TABLES: usize = 512;
+
+const MEMORY: usize = 256;
 
 const RESULT: usize = 16128;
 
@@ -48,18 +51,10 @@ pub fn put(log: &[u8], out: &mut [u8]) -> usize
     ensures text { λ r. ⌜ Written (now (log .entry)) (now (out .entry)) r (now (out .exit)) ⌝ }
     ensures short { λ r. ⌜ r ≤ longest ⌝ }
 {
-    let mut suffix = [0u32; WORK];
-    let mut shift = [0u32; WORK];
-    let mut memory = [0u32; WORK];
+    let mut tables = [0u16; TABLES];
+    let mut memory = [0u32; MEMORY];
     let mut result = [0u32; RESULT];
-    let checked = pairs::check(
-        log,
-        DRAWS,
-        &mut suffix,
-        &mut shift,
-        &mut memory,
-        &mut result,
-    );
+    let checked = pairs::check(log, DRAWS, &mut tables, &mut memory, &mut result);
     let refusal = checked.refusal;
     if refusal != 0 {
         return refused_line(out, 0, refusal, checked.entry);

@@ -7,18 +7,16 @@ use Rattle.basics.specs.laws.Rooms.{Beyond}
 use Rattle.basics.specs.laws.Inlaid.{Inlaid}
 use Rattle.pairs.specs.Check.{Pair, numbers}
 
--- the three work rooms f, h, e after searches for a probe of m bytes
-pub record Worked (m : ℕ) (f h e f′ h′ e′ : List ℕ) : Type 0 where
-  pub suffix : Beyond m f f′
-  pub shift : Beyond m h h′
+-- the two work rooms t, e after searches for a probe of m bytes
+pub record Worked (m : ℕ) (t e t′ e′ : List ℕ) : Type 0 where
+  pub tables : Beyond (2 * m) t t′
   pub memory : Beyond m e e′
 
 -- they can be searched with for a probe of m bytes
-pub record Ready (m : ℕ) (f h e : List ℕ) : Type 0 where
+pub record Ready (m : ℕ) (t e : List ℕ) : Type 0 where
   pub some : 1 ≤ m
   pub short : m ≤ 4096
-  pub suffix : m ≤ length f
-  pub shift : m ≤ length h
+  pub tables : 2 * m ≤ length t
   pub memory : m ≤ length e
 
 -- the pairs qs found, after k others: they are counted in k′, and laid into the result room d behind these

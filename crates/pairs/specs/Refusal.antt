@@ -1,5 +1,5 @@
 -- The refusals that the check can meet: those of the log test, then 20, 4 and 5. Assumes nothing.
-use mathlib.Core.Bool.{cond, not, _&&_}
+use mathlib.Core.Bool.{cond, not, _&&_, _||_}
 use Prim.Native.Nat.{ℕ, _*_, _-_}
 use lib.Dec.{eqb, leb, ltb}
 use Rattle.drawlog.specs.declared.Cause.{Cause}
@@ -14,16 +14,20 @@ longest = 512
 abbrev pub needed : ℕ → ℕ
 needed c = 4 * (c * (c - 1))
 
--- the first of 20, 4 and 5 that holds, of probes of p draws, work rooms of which the smallest has w entries, a result room of n, and c replicates;
--- 0 where there is none
-unfoldable pub ownCause : ℕ → ℕ → ℕ → ℕ → ℕ
-ownCause p w n c =
+-- the numbers that both tables of a probe of p draws take: 16p
+abbrev pub tableSize : ℕ → ℕ
+tableSize p = 2 * probeSize p
+
+-- the first of 20, 4 and 5 that holds, of probes of p draws, a room of t numbers for both tables, a memory room of e entries, a result room of n, and
+-- c replicates; 0 where there is none
+unfoldable pub ownCause : ℕ → ℕ → ℕ → ℕ → ℕ → ℕ
+ownCause p t e n c =
     cond (not (leb 1 p && leb p longest)) 20
-    (cond (ltb w (probeSize p)) 4
+    (cond (ltb t (tableSize p) || ltb e (probeSize p)) 4
     (cond (ltb n (needed c)) 5
     0))
 
 -- the first cause to hold, with its entry number: that of the log test, or one of these, which carry 0
-unfoldable pub causeOf : Tested → ℕ → ℕ → ℕ → Cause
-causeOf t p w n =
-    cond (not (eqb (t .refusal) 0)) (record { refusal = t .refusal; entry = t .entry }) (record { refusal = ownCause p w n (t .count); entry = 0 })
+unfoldable pub causeOf : Tested → ℕ → ℕ → ℕ → ℕ → Cause
+causeOf r p t e n =
+    cond (not (eqb (r .refusal) 0)) (record { refusal = r .refusal; entry = r .entry }) (record { refusal = ownCause p t e n (r .count); entry = 0 })

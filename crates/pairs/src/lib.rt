@@ -8,7 +8,8 @@
 // pair      one search: a stretch of the log is handed to the scan, uncopied
 // put       the four numbers of a pair
 //
-// Work rooms hold anything between two searches; what lies in them beyond a probe's length is never touched.
+// Work rooms hold anything between two searches; what lies in them beyond what a search of such a probe takes is never
+// touched.
 ghost use mathlib.Core.Path.{_≡_};
 ghost use Prim.Native.Nat.{_+_, _*_, _-_, _≤_, _<_};
 ghost use mathlib.Core.Bool.{cond};
@@ -62,17 +63,15 @@ struct Done {
 pub fn check(
     log: &[u8],
     p: u32,
-    suffix: &mut [u32],
-    shift: &mut [u32],
+    tables: &mut [u16],
     memory: &mut [u32],
     result: &mut [u32],
 ) -> Checked
-    ensures { λ r. ⌜ Checking (now (log .entry)) p (now (suffix .entry)) (now (shift .entry)) (now (memory .entry)) (now (result .entry)) r
-        (now (suffix .exit)) (now (shift .exit)) (now (memory .exit)) (now (result .exit)) ⌝ }
+    ensures { λ r. ⌜ Checking (now (log .entry)) p (now (tables .entry)) (now (memory .entry)) (now (result .entry)) r
+        (now (tables .exit)) (now (memory .exit)) (now (result .exit)) ⌝ }
 {
     let tested = drawlog::test(log);
-    let smallest = basics::smaller(suffix.len(), basics::smaller(shift.len(), memory.len()));
-    let cause = causes(tested, p, smallest, result.len());
+    let cause = causes(tested, p, tables.len(), memory.len(), result.len());
     let refusal = cause.refusal;
     if refusal != 0 {
         return Checked {
@@ -82,10 +81,9 @@ pub fn check(
             unprobed: 0,
         };
     }
-    let done = owners(log, tested.count, p, suffix, shift, memory, result);
+    let done = owners(log, tested.count, p, tables, memory, result);
     let size = probe_size(p);
-    basics::clear(suffix, size);
-    basics::clear(shift, size);
+    basics::clear16(tables, 2 * size);
     basics::clear(memory, size);
     Checked {
         refusal: 0,
@@ -95,11 +93,11 @@ pub fn check(
     }
 }
 
-// The first cause to refuse, after the log test: probes of p draws, work rooms of which the smallest has `smallest`
+// The first cause to refuse, after the log test: probes of p draws, a room of t numbers for both tables, a memory room of e
 // entries, and a result room of n.
-fn causes(tested: Tested, p: u32, smallest: usize, n: usize) -> Cause
+fn causes(tested: Tested, p: u32, t: usize, e: usize, n: usize) -> Cause
     requires { ⌜ tested .count ≤ most ⌝ }
-    ensures { λ r. ⌜ r ≡ causeOf tested p smallest n ⌝ }
+    ensures { λ r. ⌜ r ≡ causeOf tested p t e n ⌝ }
 {
     let refusal = tested.refusal;
     if refusal != 0 {
@@ -108,14 +106,14 @@ fn causes(tested: Tested, p: u32, smallest: usize, n: usize) -> Cause
             entry: tested.entry,
         };
     }
-    let refusal = own_cause(tested.count, p, smallest, n);
+    let refusal = own_cause(tested.count, p, t, e, n);
     Cause { refusal, entry: 0 }
 }
 
 // The first of 20, 4 and 5 that holds; 0 where none does.
-fn own_cause(count: u32, p: u32, smallest: usize, n: usize) -> u32
+fn own_cause(count: u32, p: u32, t: usize, e: usize, n: usize) -> u32
     requires { ⌜ count ≤ most ⌝ }
-    ensures { λ r. ⌜ r ≡ ownCause p smallest n count ⌝ }
+    ensures { λ r. ⌜ r ≡ ownCause p t e n count ⌝ }
 {
     if p < SHORTEST {
         return BAD_PROBE;
@@ -124,8 +122,12 @@ fn own_cause(count: u32, p: u32, smallest: usize, n: usize) -> u32
         return BAD_PROBE;
     }
     let bytes = probe_size(p);
+    let paired = 2 * bytes;
     let numbers = needed(count);
-    if smallest < bytes {
+    if t < paired {
+        return ROOM_SHORT;
+    }
+    if e < bytes {
         return ROOM_SHORT;
     }
     if n < numbers {
@@ -156,16 +158,15 @@ fn owners(
     log: &[u8],
     count: u32,
     p: u32,
-    suffix: &mut [u32],
-    shift: &mut [u32],
+    tables: &mut [u16],
     memory: &mut [u32],
     result: &mut [u32],
 ) -> Done
     requires { ⌜ (count ≡ testedOf (now log) .count) × (1 ≤ p) × (p ≤ longest) × (needed count ≤ length (now result)) ⌝ }
-    requires { ⌜ Ready (probeSize p) (now suffix) (now shift) (now memory) ⌝ }
+    requires { ⌜ Ready (probeSize p) (now tables) (now memory) ⌝ }
     ensures { λ r. ⌜ Found (pairs step p (now (log .entry)) count) 0 (now (result .entry)) (r .pairs) (now (result .exit)) ⌝ }
     ensures { λ r. ⌜ r .unprobed ≡ unprobed p (now (log .entry)) count ⌝ }
-    ensures { λ r. ⌜ Worked (probeSize p) (now (suffix .entry)) (now (shift .entry)) (now (memory .entry)) (now (suffix .exit)) (now (shift .exit)) (now (memory .exit)) ⌝ }
+    ensures { λ r. ⌜ Worked (probeSize p) (now (tables .entry)) (now (memory .entry)) (now (tables .exit)) (now (memory .exit)) ⌝ }
 {
     let mut done = Done {
         pairs: 0,
@@ -173,7 +174,7 @@ fn owners(
     };
     let mut a = 0;
     while a < count {
-        done = owner(log, count, p, a, done, suffix, shift, memory, result);
+        done = owner(log, count, p, a, done, tables, memory, result);
         a += 1;
     }
     done
@@ -186,16 +187,15 @@ fn owner(
     p: u32,
     a: u32,
     done: Done,
-    suffix: &mut [u32],
-    shift: &mut [u32],
+    tables: &mut [u16],
     memory: &mut [u32],
     result: &mut [u32],
 ) -> Done
     requires { ⌜ (count ≡ testedOf (now log) .count) × (p ≤ longest) × (a < count) × (done .unprobed ≤ a) × (4 * (done .pairs + (count - 1)) ≤ length (now result)) × (done .pairs ≤ 4096) ⌝ }
-    requires { ⌜ Ready (probeSize p) (now suffix) (now shift) (now memory) ⌝ }
+    requires { ⌜ Ready (probeSize p) (now tables) (now memory) ⌝ }
     ensures { λ r. ⌜ Found (pairsOf step p (now (log .entry)) a) (done .pairs) (now (result .entry)) (r .pairs) (now (result .exit)) ⌝ }
     ensures { λ r. ⌜ r .unprobed ≡ done .unprobed + cond (probed p (now (log .entry)) a) 0 1 ⌝ }
-    ensures { λ r. ⌜ Worked (probeSize p) (now (suffix .entry)) (now (shift .entry)) (now (memory .entry)) (now (suffix .exit)) (now (shift .exit)) (now (memory .exit)) ⌝ }
+    ensures { λ r. ⌜ Worked (probeSize p) (now (tables .entry)) (now (memory .entry)) (now (tables .exit)) (now (memory .exit)) ⌝ }
 {
     let size = probe_size(p);
     let block = drawlog::block_at(log, a);
@@ -206,17 +206,7 @@ fn owner(
         };
     }
     let probe = &block[..size];
-    let pairs = others(
-        log,
-        count,
-        a,
-        probe,
-        done.pairs,
-        suffix,
-        shift,
-        memory,
-        result,
-    );
+    let pairs = others(log, count, a, probe, done.pairs, tables, memory, result);
     Done {
         pairs,
         unprobed: done.unprobed,
@@ -230,20 +220,19 @@ fn others(
     a: u32,
     probe: &[u8],
     pairs: u32,
-    suffix: &mut [u32],
-    shift: &mut [u32],
+    tables: &mut [u16],
     memory: &mut [u32],
     result: &mut [u32],
 ) -> u32
     requires { ⌜ (count ≡ testedOf (now log) .count) × (a < count) × (4 * (pairs + (count - 1)) ≤ length (now result)) × (pairs ≤ 4096) ⌝ }
-    requires { ⌜ Ready (length (now probe)) (now suffix) (now shift) (now memory) ⌝ }
+    requires { ⌜ Ready (length (now probe)) (now tables) (now memory) ⌝ }
     ensures { λ r. ⌜ Found (pairsWith step (now (probe .entry)) (now (log .entry)) a count) pairs (now (result .entry)) r (now (result .exit)) ⌝ }
-    ensures { λ r. ⌜ Worked (length (now (probe .entry))) (now (suffix .entry)) (now (shift .entry)) (now (memory .entry)) (now (suffix .exit)) (now (shift .exit)) (now (memory .exit)) ⌝ }
+    ensures { λ r. ⌜ Worked (length (now (probe .entry))) (now (tables .entry)) (now (memory .entry)) (now (tables .exit)) (now (memory .exit)) ⌝ }
 {
     let mut found = pairs;
     let mut b = 0;
     while b < count {
-        found = pair(log, a, b, probe, found, suffix, shift, memory, result);
+        found = pair(log, a, b, probe, found, tables, memory, result);
         b += 1;
     }
     found
@@ -256,22 +245,21 @@ fn pair(
     b: u32,
     probe: &[u8],
     pairs: u32,
-    suffix: &mut [u32],
-    shift: &mut [u32],
+    tables: &mut [u16],
     memory: &mut [u32],
     result: &mut [u32],
 ) -> u32
     requires { ⌜ (a < testedOf (now log) .count) × (b < testedOf (now log) .count) × (pairs ≤ 8192) × (4 * pairs ≤ length (now result)) ⌝ }
     requires { ⌜ ((a ≡ b → ⊥) → 4 * (pairs + 1) ≤ length (now result)) ⌝ }
-    requires { ⌜ Ready (length (now probe)) (now suffix) (now shift) (now memory) ⌝ }
+    requires { ⌜ Ready (length (now probe)) (now tables) (now memory) ⌝ }
     ensures { λ r. ⌜ Found (pairWith step (now (probe .entry)) (now (log .entry)) a b) pairs (now (result .entry)) r (now (result .exit)) ⌝ }
-    ensures { λ r. ⌜ Worked (length (now (probe .entry))) (now (suffix .entry)) (now (shift .entry)) (now (memory .entry)) (now (suffix .exit)) (now (shift .exit)) (now (memory .exit)) ⌝ }
+    ensures { λ r. ⌜ Worked (length (now (probe .entry))) (now (tables .entry)) (now (memory .entry)) (now (tables .exit)) (now (memory .exit)) ⌝ }
 {
     if a == b {
         return pairs;
     }
     let stream = drawlog::block_at(log, b);
-    let hits = scans::aligned(probe, stream, suffix, shift, memory, STEP);
+    let hits = scans::aligned(probe, stream, tables, memory, STEP);
     if hits.number == 0 {
         return pairs;
     }

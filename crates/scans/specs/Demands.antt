@@ -1,7 +1,7 @@
 -- Demands 2 and 3: theorems over the definitions, and what they say of the answers of the calls. Assumes nothing.
 use mathlib.Core.Path.{_≡_, refl, sym, ap, _∙_}
 use mathlib.Core.List.{List, map}
-use Prim.Native.Nat.{ℕ, zero, suc, _+_, _-_, _*_, _≤_, min, zero-le}
+use Prim.Native.Nat.{ℕ, zero, suc, _+_, _-_, _*_, _≤_, zero-le}
 use native.Mathlib.Omega.{arith}
 use lib.ListN.{length, length-map}
 use Rattle.scans.specs.declared.Answer.{Answer}
@@ -70,13 +70,13 @@ taken k ws n e z =
     shown zero = refl
     shown (suc k) = refl
 
-pub agreed : {x y s h e d : List ℕ} {p q : Answer} {s₁ h₁ d₁ s₂ h₂ e₂ d₂ : List ℕ} → Plainly x y s h d p s₁ h₁ d₁ → Rememberingly x y s h e d q s₂ h₂ e₂ d₂
-    → p .refusal ≡ 0 → q .refusal ≡ 0 → length x ≤ length y → Agreed x y d p q d₁ d₂
+pub agreed : {x y t e d : List ℕ} {p q : Answer} {t₁ d₁ t₂ e₂ d₂ : List ℕ} → Plainly x y t d p t₁ d₁ → Rememberingly x y t e d q t₂ e₂ d₂ → p .refusal ≡ 0
+    → q .refusal ≡ 0 → length x ≤ length y → Agreed x y d p q d₁ d₂
 unfolding answerOf
-agreed {x} {y} {s} {h} {e} {d} {p} {q} {s₁} {h₁} {d₁} {s₂} {h₂} {e₂} {d₂} u v zp zq fits =
-    let a = taken (refusalOf (length x) (length y) (min (length s) (length h))) (plain x y) (length d) (u .answer) zp in
-    let b = taken (refusalOf (length x) (length y) (min (length s) (min (length h) (length e)))) (remembering x y) (length d) (v .answer) zq in
-    let some : 1 ≤ length x = accepted (length x) (length y) (min (length s) (length h)) refl (a .0) .some in
+agreed {x} {y} {t} {e} {d} {p} {q} {t₁} {d₁} {t₂} {e₂} {d₂} u v zp zq fits =
+    let a = taken (refusalOf (length x) (length y) (length t) (length x)) (plain x y) (length d) (u .answer) zp in
+    let b = taken (refusalOf (length x) (length y) (length t) (length e)) (remembering x y) (length d) (v .answer) zq in
+    let some : 1 ≤ length x = accepted (length x) (length y) (length t) (length x) refl (a .0) .some in
     let D : Demand3 x y = demand3 x y some fits in
     let F : Demand2 x y = demand2 x y some in
     let w : length (remembering x y) ≡ length (plain x y) =

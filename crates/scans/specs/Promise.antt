@@ -5,8 +5,7 @@ use mathlib.Core.List.{List, _++_}
 use Prim.Native.Nat.{ℕ, zero, suc, min}
 use lib.ListN.{length, take, drop, replicate}
 use Rattle.basics.specs.Rooms.{roomAfter}
-use Rattle.tables.specs.Suffix.{suffixTable}
-use Rattle.tables.specs.Shift.{shiftTable}
+use Rattle.tables.specs.Both.{bothTables}
 use Rattle.scans.specs.declared.Answer.{Answer}
 use Rattle.scans.specs.declared.Tally.{Tally}
 use Rattle.scans.specs.Trace.{Window, comparisons, positions}
@@ -35,28 +34,27 @@ abbrev pub reportedAfter : ℕ → List ℕ → List ℕ → List ℕ
 reportedAfter zero ps d = reported ps d
 reportedAfter (suc r) ps d = d
 
--- `plain`, of the probe x, the stream y and the rooms s, h, d: the answer is r, and the rooms end as s′, h′, d′
-pub record Plainly (x y s h d : List ℕ) (r : Answer) (s′ h′ d′ : List ℕ) : Type 0 where
-  pub answer : r ≡ answerOf (refusalOf (length x) (length y) (min (length s) (length h))) (plain x y) (length d)
-  pub suffix : s′ ≡ roomAfter (r .refusal) (suffixTable x) s
-  pub shift : h′ ≡ roomAfter (r .refusal) (shiftTable x) h
+-- `plain`, of the probe x, the stream y, the room t for both tables and the position room d: the answer is r, and the rooms end as t′, d′. It has no memory
+-- room, so none is too short.
+pub record Plainly (x y t d : List ℕ) (r : Answer) (t′ d′ : List ℕ) : Type 0 where
+  pub answer : r ≡ answerOf (refusalOf (length x) (length y) (length t) (length x)) (plain x y) (length d)
+  pub tables : t′ ≡ roomAfter (r .refusal) (bothTables x) t
   pub places : d′ ≡ reportedAfter (r .refusal) (positions (plain x y)) d
 
-pub plain-once : {x y s h d : List ℕ} {r r′ : Answer} {s₁ h₁ d₁ s₂ h₂ d₂ : List ℕ}
-    → Plainly x y s h d r s₁ h₁ d₁ → Plainly x y s h d r′ s₂ h₂ d₂ → (r ≡ r′) × (s₁ ≡ s₂) × (h₁ ≡ h₂) × (d₁ ≡ d₂)
-plain-once p q = (cc, cc, cc, cc)
+pub plain-once : {x y t d : List ℕ} {r r′ : Answer} {t₁ d₁ t₂ d₂ : List ℕ} → Plainly x y t d r t₁ d₁ → Plainly x y t d r′ t₂ d₂
+    → (r ≡ r′) × (t₁ ≡ t₂) × (d₁ ≡ d₂)
+plain-once p q = (cc, cc, cc)
 
 -- `remember`, with the memory room e besides, whose first m entries end at 0
-pub record Rememberingly (x y s h e d : List ℕ) (r : Answer) (s′ h′ e′ d′ : List ℕ) : Type 0 where
-  pub answer : r ≡ answerOf (refusalOf (length x) (length y) (min (length s) (min (length h) (length e)))) (remembering x y) (length d)
-  pub suffix : s′ ≡ roomAfter (r .refusal) (suffixTable x) s
-  pub shift : h′ ≡ roomAfter (r .refusal) (shiftTable x) h
+pub record Rememberingly (x y t e d : List ℕ) (r : Answer) (t′ e′ d′ : List ℕ) : Type 0 where
+  pub answer : r ≡ answerOf (refusalOf (length x) (length y) (length t) (length e)) (remembering x y) (length d)
+  pub tables : t′ ≡ roomAfter (r .refusal) (bothTables x) t
   pub memory : e′ ≡ roomAfter (r .refusal) (replicate (length x) 0) e
   pub places : d′ ≡ reportedAfter (r .refusal) (positions (remembering x y)) d
 
-pub remember-once : {x y s h e d : List ℕ} {r r′ : Answer} {s₁ h₁ e₁ d₁ s₂ h₂ e₂ d₂ : List ℕ}
-    → Rememberingly x y s h e d r s₁ h₁ e₁ d₁ → Rememberingly x y s h e d r′ s₂ h₂ e₂ d₂ → (r ≡ r′) × (s₁ ≡ s₂) × (h₁ ≡ h₂) × (e₁ ≡ e₂) × (d₁ ≡ d₂)
-remember-once p q = (cc, cc, cc, cc, cc)
+pub remember-once : {x y t e d : List ℕ} {r r′ : Answer} {t₁ e₁ d₁ t₂ e₂ d₂ : List ℕ} → Rememberingly x y t e d r t₁ e₁ d₁ → Rememberingly x y t e d r′ t₂ e₂ d₂
+    → (r ≡ r′) × (t₁ ≡ t₂) × (e₁ ≡ e₂) × (d₁ ≡ d₂)
+remember-once p q = (cc, cc, cc, cc)
 
 -- the number and the first of the places ps beside this refusal
 unfoldable pub tallyOf : ℕ → List ℕ → Tally
@@ -64,12 +62,11 @@ tallyOf zero ps = record { refusal = 0; number = length ps; first = firstOf ps }
 tallyOf (suc r) ps = record { refusal = suc r; number = 0; first = 0 }
 
 -- `aligned`, with the step d: of all occurrences, those at multiples of d
-pub record Aligning (x y s h e : List ℕ) (d : ℕ) (r : Tally) (s′ h′ e′ : List ℕ) : Type 0 where
-  pub answer : r ≡ tallyOf (refusalOf (length x) (length y) (min (length s) (min (length h) (length e)))) (multiples d (occurrences x y))
-  pub suffix : s′ ≡ roomAfter (r .refusal) (suffixTable x) s
-  pub shift : h′ ≡ roomAfter (r .refusal) (shiftTable x) h
+pub record Aligning (x y t e : List ℕ) (d : ℕ) (r : Tally) (t′ e′ : List ℕ) : Type 0 where
+  pub answer : r ≡ tallyOf (refusalOf (length x) (length y) (length t) (length e)) (multiples d (occurrences x y))
+  pub tables : t′ ≡ roomAfter (r .refusal) (bothTables x) t
   pub memory : e′ ≡ roomAfter (r .refusal) (replicate (length x) 0) e
 
-pub aligned-once : {x y s h e : List ℕ} {d : ℕ} {r r′ : Tally} {s₁ h₁ e₁ s₂ h₂ e₂ : List ℕ}
-    → Aligning x y s h e d r s₁ h₁ e₁ → Aligning x y s h e d r′ s₂ h₂ e₂ → (r ≡ r′) × (s₁ ≡ s₂) × (h₁ ≡ h₂) × (e₁ ≡ e₂)
-aligned-once p q = (cc, cc, cc, cc)
+pub aligned-once : {x y t e : List ℕ} {d : ℕ} {r r′ : Tally} {t₁ e₁ t₂ e₂ : List ℕ} → Aligning x y t e d r t₁ e₁ → Aligning x y t e d r′ t₂ e₂
+    → (r ≡ r′) × (t₁ ≡ t₂) × (e₁ ≡ e₂)
+aligned-once p q = (cc, cc, cc)

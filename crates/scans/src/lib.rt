@@ -6,7 +6,8 @@
 // index i of the probe stands at the text position h = j + i.
 //
 // A search goes in four steps:
-// 1. `prepare` looks for a cause to refuse, and writes the tables: the suffix and shift rooms, and the occurrence table.
+// 1. `prepare` looks for a cause to refuse, and writes the tables: suffix and shift entries in pairs to one room, and the
+//    occurrence table.
 // 2. `loops` visits window after window, from j = 0 on while one fits.
 // 3. `windows` compares within a window, from the last index downward: all of it in the plain scan, and in the
 //    remembering scan what `memory` does not tell.
@@ -23,8 +24,6 @@
 // 5. Above the last position where a length was remembered nothing is looked up (`windows::remembering`).
 // 6. The last byte of a window, of which nothing can be remembered, is compared by itself (`windows::last`).
 ghost use mathlib.Core.Path.{_≡_};
-ghost use Prim.Native.Nat.{_≤_};
-ghost use lib.ListN.{length};
 ghost use Rattle.scans.specs.Refusal.{refusalOf};
 ghost use Rattle.scans.specs.Promise.{Plainly, Rememberingly, Aligning};
 ghost use Rattle.scans.specs.inside.Search.{refusedBy, answerBy, tallyBy, Searching, Preparing};
@@ -79,25 +78,18 @@ struct Searched {
     run: Run,
 }
 
-// Searches the stream for the probe by the plain scan.
-pub fn plain(
-    probe: &[u8],
-    stream: &[u8],
-    suffix: &mut [u32],
-    shift: &mut [u32],
-    positions: &mut [u32],
-) -> Answer
-    ensures { λ r. ⌜ Plainly (now (probe .entry)) (now (stream .entry)) (now (suffix .entry)) (now (shift .entry)) (now (positions .entry)) r
-        (now (suffix .exit)) (now (shift .exit)) (now (positions .exit)) ⌝ }
+// Searches the stream for the probe by the plain scan. It has no memory room, so none is too short.
+pub fn plain(probe: &[u8], stream: &[u8], tables: &mut [u16], positions: &mut [u32]) -> Answer
+    ensures { λ r. ⌜ Plainly (now (probe .entry)) (now (stream .entry)) (now (tables .entry)) (now (positions .entry)) r
+        (now (tables .exit)) (now (positions .exit)) ⌝ }
 {
-    let smallest = basics::smaller(suffix.len(), shift.len());
-    let prepared = prepare(probe, stream.len(), smallest, suffix, shift);
+    let prepared = prepare(probe, stream.len(), probe.len(), tables);
     let refusal = prepared.refusal;
     if refusal != 0 {
         return answer_of(refused(refusal), positions.len());
     }
     let occ = prepared.occ;
-    let run = loops::plainly(probe, stream, shift, &occ, positions);
+    let run = loops::plainly(probe, stream, tables, &occ, positions);
     answer_of(Searched { refusal: 0, run }, positions.len())
 }
 
@@ -105,15 +97,14 @@ pub fn plain(
 pub fn remember(
     probe: &[u8],
     stream: &[u8],
-    suffix: &mut [u32],
-    shift: &mut [u32],
+    tables: &mut [u16],
     memory: &mut [u32],
     positions: &mut [u32],
 ) -> Answer
-    ensures { λ r. ⌜ Rememberingly (now (probe .entry)) (now (stream .entry)) (now (suffix .entry)) (now (shift .entry)) (now (memory .entry)) (now (positions .entry)) r
-        (now (suffix .exit)) (now (shift .exit)) (now (memory .exit)) (now (positions .exit)) ⌝ }
+    ensures { λ r. ⌜ Rememberingly (now (probe .entry)) (now (stream .entry)) (now (tables .entry)) (now (memory .entry)) (now (positions .entry)) r
+        (now (tables .exit)) (now (memory .exit)) (now (positions .exit)) ⌝ }
 {
-    let s = search(probe, stream, suffix, shift, memory, positions, 1);
+    let s = search(probe, stream, tables, memory, positions, 1);
     answer_of(s, positions.len())
 }
 
@@ -121,16 +112,15 @@ pub fn remember(
 pub fn aligned(
     probe: &[u8],
     stream: &[u8],
-    suffix: &mut [u32],
-    shift: &mut [u32],
+    tables: &mut [u16],
     memory: &mut [u32],
     step: usize,
 ) -> Tally
-    ensures { λ r. ⌜ Aligning (now (probe .entry)) (now (stream .entry)) (now (suffix .entry)) (now (shift .entry)) (now (memory .entry)) step r
-        (now (suffix .exit)) (now (shift .exit)) (now (memory .exit)) ⌝ }
+    ensures { λ r. ⌜ Aligning (now (probe .entry)) (now (stream .entry)) (now (tables .entry)) (now (memory .entry)) step r
+        (now (tables .exit)) (now (memory .exit)) ⌝ }
 {
     let mut first = [0u32; 1];
-    let s = search(probe, stream, suffix, shift, memory, &mut first, step);
+    let s = search(probe, stream, tables, memory, &mut first, step);
     tally_of(s, first[0])
 }
 
@@ -138,54 +128,45 @@ pub fn aligned(
 fn search(
     probe: &[u8],
     stream: &[u8],
-    suffix: &mut [u32],
-    shift: &mut [u32],
+    tables: &mut [u16],
     memory: &mut [u32],
     positions: &mut [u32],
     step: usize,
 ) -> Searched
-    ensures { λ r. ⌜ Searching (now (probe .entry)) (now (stream .entry)) (now (suffix .entry)) (now (shift .entry)) (now (memory .entry)) (now (positions .entry)) step r
-        (now (suffix .exit)) (now (shift .exit)) (now (memory .exit)) (now (positions .exit)) ⌝ }
+    ensures { λ r. ⌜ Searching (now (probe .entry)) (now (stream .entry)) (now (tables .entry)) (now (memory .entry)) (now (positions .entry)) step r
+        (now (tables .exit)) (now (memory .exit)) (now (positions .exit)) ⌝ }
 {
-    let smallest = basics::smaller(suffix.len(), basics::smaller(shift.len(), memory.len()));
-    let prepared = prepare(probe, stream.len(), smallest, suffix, shift);
+    let prepared = prepare(probe, stream.len(), memory.len(), tables);
     let refusal = prepared.refusal;
     if refusal != 0 {
         return refused(refusal);
     }
     let occ = prepared.occ;
-    let run = loops::remembering(probe, stream, suffix, shift, &occ, memory, positions, step);
+    let run = loops::remembering(probe, stream, tables, &occ, memory, positions, step);
     Searched { refusal: 0, run }
 }
 
-// Looks for a cause to refuse, and writes the tables where there is none. The smallest work room has `smallest` entries.
-fn prepare(
-    probe: &[u8],
-    n: usize,
-    smallest: usize,
-    suffix: &mut [u32],
-    shift: &mut [u32],
-) -> Prepared
-    requires { ⌜ (smallest ≤ length (now suffix)) × (smallest ≤ length (now shift)) ⌝ }
-    ensures { λ r. ⌜ Preparing (now (probe .entry)) n smallest (now (suffix .entry)) (now (shift .entry)) r (now (suffix .exit)) (now (shift .exit)) ⌝ }
+// Looks for a cause to refuse, and writes the tables where there is none. The stream has n bytes, the memory room e entries.
+fn prepare(probe: &[u8], n: usize, e: usize, tables: &mut [u16]) -> Prepared
+    ensures { λ r. ⌜ Preparing (now (probe .entry)) n e (now (tables .entry)) r (now (tables .exit)) ⌝ }
 {
-    let refusal = causes(probe.len(), n, smallest);
+    let refusal = causes(probe.len(), n, tables.len(), e);
     if refusal != 0 {
         return Prepared {
             refusal,
             occ: [0u32; 256],
         };
     }
-    tables::both(probe, suffix, shift);
+    tables::both(probe, tables);
     let found = tables::occurrence(probe);
     let occ = found.table;
     Prepared { refusal: 0, occ }
 }
 
-// The first cause to refuse a probe of m bytes, a stream of n, and work rooms of which the smallest has `smallest`
+// The first cause to refuse a probe of m bytes, a stream of n, a room of t numbers for both tables, and a memory room of e
 // entries; 0 where there is none.
-fn causes(m: usize, n: usize, smallest: usize) -> u32
-    ensures { λ r. ⌜ r ≡ refusalOf m n smallest ⌝ }
+fn causes(m: usize, n: usize, t: usize, e: usize) -> u32
+    ensures { λ r. ⌜ r ≡ refusalOf m n t e ⌝ }
 {
     if m == 0 {
         return PROBE_EMPTY;
@@ -196,7 +177,11 @@ fn causes(m: usize, n: usize, smallest: usize) -> u32
     if LARGEST < n {
         return STREAM_LARGE;
     }
-    if smallest < m {
+    let paired = 2 * m;
+    if t < paired {
+        return ROOM_SHORT;
+    }
+    if e < m {
         return ROOM_SHORT;
     }
     0

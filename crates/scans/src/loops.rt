@@ -21,9 +21,9 @@ pub(crate) struct Run {
 }
 
 // The plain scan, over tables that are ready; it notes every place.
-pub(crate) fn plainly(x: &[u8], y: &[u8], shift: &[u32], occ: &[u32; 256], room: &mut [u32]) -> Run
+pub(crate) fn plainly(x: &[u8], y: &[u8], tables: &[u16], occ: &[u32; 256], room: &mut [u32]) -> Run
     requires { ⌜ Sizes (now x) (now y) ⌝ }
-    requires { ⌜ Moving (now x) (now shift) (now occ) ⌝ }
+    requires { ⌜ Moving (now x) (now tables) (now occ) ⌝ }
     ensures run { λ r. ⌜ r ≡ runOf 1 (plain (now (x .entry)) (now (y .entry))) ⌝ }
     ensures room { λ r. ⌜ now (room .exit) ≡ reported (placesOf 1 (plain (now (x .entry)) (now (y .entry)))) (now (room .entry)) ⌝ }
 {
@@ -37,7 +37,7 @@ pub(crate) fn plainly(x: &[u8], y: &[u8], shift: &[u32], occ: &[u32; 256], room:
         count = w.count;
         visited += 1;
         hits = hits::note(room, hits, 1, j, left);
-        j += moves::by(x, y, shift, occ, j, left);
+        j += moves::by(x, y, tables, occ, j, left);
     }
     Run {
         hits,
@@ -51,22 +51,21 @@ pub(crate) fn plainly(x: &[u8], y: &[u8], shift: &[u32], occ: &[u32; 256], room:
 pub(crate) fn remembering(
     x: &[u8],
     y: &[u8],
-    suffix: &[u32],
-    shift: &[u32],
+    tables: &[u16],
     occ: &[u32; 256],
     mem: &mut [u32],
     room: &mut [u32],
     step: usize,
 ) -> Run
     requires { ⌜ Sizes (now x) (now y) ⌝ }
-    requires { ⌜ Moving (now x) (now shift) (now occ) ⌝ }
-    requires { ⌜ Recalling (now x) (now suffix) (now mem) ⌝ }
+    requires { ⌜ Moving (now x) (now tables) (now occ) ⌝ }
+    requires { ⌜ Recalling (now x) (now tables) (now mem) ⌝ }
     ensures run { λ r. ⌜ r ≡ runOf step (remembering (now (x .entry)) (now (y .entry))) ⌝ }
     ensures room { λ r. ⌜ now (room .exit) ≡ reported (placesOf step (remembering (now (x .entry)) (now (y .entry)))) (now (room .entry)) ⌝ }
     ensures zeros { λ r. ⌜ now (mem .exit) ≡ front (replicate (length (now (x .entry))) 0) (now (mem .entry)) ⌝ }
 {
     basics::clear(mem, x.len());
-    let run = through(x, y, suffix, shift, occ, mem, room, step);
+    let run = through(x, y, tables, occ, mem, room, step);
     let used = x.len();
     basics::clear(mem, used);
     run
@@ -76,16 +75,15 @@ pub(crate) fn remembering(
 fn through(
     x: &[u8],
     y: &[u8],
-    suffix: &[u32],
-    shift: &[u32],
+    tables: &[u16],
     occ: &[u32; 256],
     mem: &mut [u32],
     room: &mut [u32],
     step: usize,
 ) -> Run
     requires { ⌜ Sizes (now x) (now y) ⌝ }
-    requires { ⌜ Moving (now x) (now shift) (now occ) ⌝ }
-    requires { ⌜ Recalling (now x) (now suffix) (now mem) ⌝ }
+    requires { ⌜ Moving (now x) (now tables) (now occ) ⌝ }
+    requires { ⌜ Recalling (now x) (now tables) (now mem) ⌝ }
     requires { ⌜ now mem ≡ front (replicate (length (now x)) 0) (now mem) ⌝ }
     ensures run { λ r. ⌜ r ≡ runOf step (remembering (now (x .entry)) (now (y .entry))) ⌝ }
     ensures room { λ r. ⌜ now (room .exit) ≡ reported (placesOf step (remembering (now (x .entry)) (now (y .entry)))) (now (room .entry)) ⌝ }
@@ -103,18 +101,18 @@ fn through(
         let met = windows::last(x, y, j, count);
         count = met.count;
         if met.equal {
-            let w = windows::remembering(x, y, suffix, mem, p, top, count);
+            let w = windows::remembering(x, y, tables, mem, p, top, count);
             let left = w.left;
             count = w.count;
             // The next window waits for the move alone, so the move comes before the notes.
-            let d = moves::by(x, y, shift, occ, j, left);
+            let d = moves::by(x, y, tables, occ, j, left);
             let next = memory::on(m, p, d);
             hits = hits::note(room, hits, step, j, left);
             top = memory::keep(mem, m, p, top, w.kept);
             p = next;
         } else {
             // Most windows stop here, with nothing to note.
-            let d = moves::by(x, y, shift, occ, j, m);
+            let d = moves::by(x, y, tables, occ, j, m);
             p = memory::on(m, p, d);
         }
     }

@@ -2,10 +2,11 @@
 //
 // A window's end is a number, `left`: 0 where it matched, and i + 1 where it stopped at index i.
 ghost use mathlib.Core.Path.{_≡_};
-ghost use Prim.Native.Nat.{_+_, _-_, _<_, _≤_};
+ghost use Prim.Native.Nat.{_+_, _*_, _-_, _<_, _≤_};
 ghost use lib.Dec.{eqb};
 ghost use lib.ListN.{length};
 ghost use Rattle.basics.specs.Lists.{at};
+ghost use Rattle.tables.specs.Refusal.{longest};
 ghost use Rattle.scans.specs.Plain.{plainPass};
 ghost use Rattle.scans.specs.Remember.{memFrom};
 ghost use Rattle.scans.specs.inside.Slots.{recalled, Stands};
@@ -91,14 +92,14 @@ pub(crate) fn last(x: &[u8], y: &[u8], j: usize, count: u64) -> Met
 pub(crate) fn remembering(
     x: &[u8],
     y: &[u8],
-    suffix: &[u32],
+    tables: &[u16],
     mem: &[u32],
     start: Place,
     top: usize,
     count: u64,
 ) -> Passed
     requires { ⌜ Lies (now x) (now y) (start .at) ⌝ }
-    requires { ⌜ Recalling (now x) (now suffix) (now mem) ⌝ }
+    requires { ⌜ Recalling (now x) (now tables) (now mem) ⌝ }
     requires { ⌜ Stands (length (now x)) (start .at) start ⌝ }
     requires { ⌜ Quiet (length (now x)) (now mem) (start .at) top ⌝ }
     requires { ⌜ count ≤ 1099511627776 ⌝ }
@@ -115,21 +116,21 @@ pub(crate) fn remembering(
             count: seen.count,
         };
     }
-    below(x, y, suffix, mem, start, low, seen.count)
+    below(x, y, tables, mem, start, low, seen.count)
 }
 
 // The rest of the window at `start`, from index `from` - 1 down, by the four rules.
 fn below(
     x: &[u8],
     y: &[u8],
-    suffix: &[u32],
+    tables: &[u16],
     mem: &[u32],
     start: Place,
     from: usize,
     count: u64,
 ) -> Passed
     requires { ⌜ Lies (now x) (now y) (start .at) ⌝ }
-    requires { ⌜ Recalling (now x) (now suffix) (now mem) ⌝ }
+    requires { ⌜ Recalling (now x) (now tables) (now mem) ⌝ }
     requires { ⌜ Stands (length (now x)) (start .at) start ⌝ }
     requires { ⌜ (from ≤ length (now x)) × (count < 1099511631872) ⌝ }
     ensures { λ r. ⌜ r ≡ passedOf (memFrom (now (x .entry)) (now (y .entry)) (recalled (now (mem .entry)) (length (now (x .entry)))) (start .at) from from) count ⌝ }
@@ -150,7 +151,7 @@ fn below(
             }
             k = i;
         } else {
-            let s = entry(suffix, i);
+            let s = entry(tables, i);
             if r <= s {
                 k -= r;
             } else if s == k {
@@ -172,10 +173,10 @@ fn ended(left: usize, kept: usize, count: u64) -> Passed
     Passed { left, kept, count }
 }
 
-// Entry i of the suffix table, as it stands in its room.
-fn entry(suffix: &[u32], i: usize) -> usize
-    requires { ⌜ i < length (now suffix) ⌝ }
-    ensures { λ r. ⌜ r ≡ at (now (suffix .entry)) i ⌝ }
+// Entry i of the suffix table: the first of pair i.
+fn entry(tables: &[u16], i: usize) -> usize
+    requires { ⌜ (i < longest) × (2 * i < length (now tables)) ⌝ }
+    ensures { λ r. ⌜ r ≡ at (now (tables .entry)) (2 * i) ⌝ }
 {
-    basics::wide(suffix[i])
+    basics::wide16(tables[2 * i])
 }

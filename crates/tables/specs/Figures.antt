@@ -10,6 +10,7 @@ use Rattle.basics.specs.Lists.{same, table}
 use Rattle.tables.specs.Suffix.{endsAlike, suffixAt, suffixTable}
 use Rattle.tables.specs.Shift.{fitsNear, fitsFar, fits, shiftAt, shiftTable, period}
 use Rattle.tables.specs.Occurrence.{standsAt, occurrenceAt, occurrenceTable}
+use Rattle.tables.specs.Both.{inPairs, bothTables}
 use Rattle.tables.specs.Refusal.{refusalOf}
 
 abbrev a : ℕ
@@ -83,20 +84,29 @@ pub starred : map computed rows ≡ map said rows
 unfolding rows computed said columnAt table same least greatest endsAlike suffixAt suffixTable fitsNear fitsFar fits shiftAt shiftTable standsAt occurrenceAt occurrenceTable
 starred = refl
 
+-- in one room, suffix entry then shift entry: of the third row
+together : bothTables (a ∷ b ∷ a ∷ b ∷ []) ≡ 0 ∷ 2 ∷ 2 ∷ 2 ∷ 0 ∷ 4 ∷ 4 ∷ 1 ∷ []
+unfolding bothTables inPairs table same least greatest endsAlike suffixAt suffixTable fitsNear fitsFar fits shiftAt shiftTable
+together = refl
+
 -- entry 0 is the period, of each row
 periods : map (λ (r : Row). shiftAt (r .probe) 0) rows ≡ map (λ (r : Row). period (r .probe)) rows
 unfolding rows same least fitsNear fitsFar fits shiftAt period
 periods = refl
 
--- a probe of 4,096 bytes is accepted, one of 4,097 refused 2; a room of m entries is accepted, one of m − 1 refused 4
-edges : map (refusalOf 4096) (4096 ∷ 4095 ∷ []) ≡ 0 ∷ 4 ∷ []
+-- a probe of 4,096 bytes is accepted, one of 4,097 refused 2; a room with k numbers for each byte is accepted, one of one less refused 4
+edges : map (refusalOf 1 4096) (4096 ∷ 4095 ∷ []) ≡ 0 ∷ 4 ∷ []
 unfolding refusalOf
 edges = refl
 
-edges-long : map (refusalOf 4097) (4097 ∷ 4096 ∷ []) ≡ 2 ∷ 2 ∷ []
+edges-both : map (refusalOf 2 4096) (8192 ∷ 8191 ∷ []) ≡ 0 ∷ 4 ∷ []
+unfolding refusalOf
+edges-both = refl
+
+edges-long : map (refusalOf 1 4097) (4097 ∷ 4096 ∷ []) ≡ 2 ∷ 2 ∷ []
 unfolding refusalOf
 edges-long = refl
 
-edges-empty : map (refusalOf 0) (0 ∷ 1 ∷ []) ≡ 1 ∷ 1 ∷ []
+edges-empty : map (refusalOf 1 0) (0 ∷ 1 ∷ []) ≡ 1 ∷ 1 ∷ []
 unfolding refusalOf
 edges-empty = refl

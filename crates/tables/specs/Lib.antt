@@ -5,10 +5,14 @@ pub mod Suffix
 pub mod Shift
 -- entry a: how far before the last place byte a stands last
 pub mod Occurrence
+-- both tables in one room
+pub mod Both
 -- which refusal, by the causes
 pub mod Refusal
 -- what each public call promises, and that it determines the outcome
 pub mod Promise
+-- taken apart, the pairs are the two tables: of the definitions, and of the calls
+pub mod Apart
 -- the starred rows
 pub mod Figures
 -- the laws, for the proofs of this crate and of those above it

@@ -7,6 +7,8 @@ pub mod Shift
 pub mod Occurrence
 -- the causes, one by one
 pub mod Refusal
+-- pairs in one room: put together, taken apart, written
+pub mod Both
 -- the shift table in linear time, out of the suffix table: figure 11 of source 001
 pub mod Figure11
 -- the occurrence table, byte after byte

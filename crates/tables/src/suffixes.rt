@@ -1,20 +1,20 @@
 // The suffix table: entry i is the length of the longest common suffix of x[0..i] and x.
 ghost use mathlib.Core.Path.{_≡_};
-ghost use Prim.Native.Nat.{_<_, _≤_};
+ghost use Prim.Native.Nat.{_*_, _<_, _≤_};
 ghost use lib.ListN.{length};
-ghost use Rattle.basics.specs.Rooms.{front};
 ghost use Rattle.tables.specs.Suffix.{suffixAt, suffixTable};
 ghost use Rattle.tables.specs.Refusal.{longest};
+ghost use Rattle.tables.specs.laws.Both.{Firstly};
 
-// Fills the front of a room that is long enough.
-pub(crate) fn fill(x: &[u8], room: &mut [u32])
-    requires { ⌜ (length (now x) ≤ longest) × (length (now x) ≤ length (now room)) ⌝ }
-    ensures { λ _. ⌜ now (room .exit) ≡ front (suffixTable (now (x .entry))) (now (room .entry)) ⌝ }
+// Fills the first place of each pair, in a room that is long enough.
+pub(crate) fn fill(x: &[u8], room: &mut [u16])
+    requires { ⌜ (length (now x) ≤ longest) × (2 * length (now x) ≤ length (now room)) ⌝ }
+    ensures { λ _. ⌜ Firstly (suffixTable (now (x .entry))) (now (room .entry)) (now (room .exit)) ⌝ }
 {
     let mut i = 0;
     while i < x.len() {
         let k = common(x, i);
-        room[i] = k as u32;
+        room[2 * i] = k as u16;
         i += 1;
     }
 }

@@ -18,9 +18,6 @@ slice-aggregate-check-2 c = search needs
 slice-aggregate-check-3 : tie.Need-slice-aggregate-check-3
 slice-aggregate-check-3 c = search needs
 
-slice-aggregate-check-4 : tie.Need-slice-aggregate-check-4
-slice-aggregate-check-4 c = search needs
-
 check-requires : tie.Need-check-requires
 check-requires c κs = search needs
 
@@ -34,9 +31,9 @@ returns : tie.Need-returns
 returns c =
     let call = c .before .before in
     let if1 = call .before .before in
-    let check = if1 .before .before .before .before .before in
-    let text = laid-as (refused-text _ _ _ _ _ (check .check .ensures) (search needs) (search needs) (search needs) (search needs) (if1 .if1 .taken)) (call .refused-line .ensures) in
-    let log = check .before .before .before .before .before .before in
+    let check = if1 .before .before .before .before in
+    let text = laid-as (refused-text _ _ _ _ (check .check .ensures) (search needs) (search needs) (search needs) (if1 .if1 .taken)) (call .refused-line .ensures) in
+    let log = check .before .before .before .before .before in
     (text, written-short (log .before .args .log .now) (λ i. omega (arith, log .shared-slice-known .given i)) text)
 
 test-requires : tie.Need-test-requires
@@ -49,14 +46,14 @@ accepted-requires : tie.Need-accepted-requires
 accepted-requires c κs =
     let test = c .before .before in
     let if1 = test .before in
-    let check = if1 .before .before .before .before .before in
+    let check = if1 .before .before .before .before in
     let e = check .check .ensures in
     let z = if1 .if1 .left in
     let is = test .test .ensures in (
-      held-told _ _ _ _ _ e (search needs) (search needs) (search needs) (search needs) z is,
+      held-told _ _ _ _ e (search needs) (search needs) (search needs) z is,
       (
-        count-told _ _ _ _ _ e (search needs) (search needs) (search needs) (search needs) z is,
-        missed-told _ _ _ _ _ e (search needs) (search needs) (search needs) (search needs) z is,
+        count-told _ _ _ _ e (search needs) (search needs) (search needs) z is,
+        missed-told _ _ _ _ e (search needs) (search needs) (search needs) z is,
       ),
     )
 
@@ -67,9 +64,9 @@ returns-2 : tie.Need-returns-2
 returns-2 c =
     let call = c .before .before in
     let if1 = call .before .before .before .before in
-    let check = if1 .before .before .before .before .before in
-    let text = laid-as (listing-accepted _ (sym (refusal-is _ _ _ _ _ (check .check .ensures) (search needs) (search needs) (search needs) (search needs)) ∙ if1 .if1 .left)) (call .accepted .ensures) in
-    let log = check .before .before .before .before .before .before in
+    let check = if1 .before .before .before .before in
+    let text = laid-as (listing-accepted _ (sym (refusal-is _ _ _ _ (check .check .ensures) (search needs) (search needs) (search needs)) ∙ if1 .if1 .left)) (call .accepted .ensures) in
+    let log = check .before .before .before .before .before in
     (text, written-short (log .before .args .log .now) (λ i. omega (arith, log .shared-slice-known .given i)) text)
 
 pub put-spec : {M : Type 1} → statement M
@@ -79,7 +76,6 @@ put-spec =
     slice-aggregate-check
     slice-aggregate-check-2
     slice-aggregate-check-3
-    slice-aggregate-check-4
     check-requires
     refused-line-requires
     same-length

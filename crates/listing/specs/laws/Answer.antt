@@ -2,7 +2,7 @@
 use mathlib.Core.Path.{_≡_, sym, ap, _∙_}
 use mathlib.Core.Logic.{⊎-elim}
 use mathlib.Core.List.{List}
-use Prim.Native.Nat.{ℕ, _-_, _*_, _≤_, min}
+use Prim.Native.Nat.{ℕ, _-_, _*_, _≤_}
 use native.Mathlib.Nat.{mul-le-mul}
 use native.Mathlib.Omega.{arith}
 use lib.ListN.{length}
@@ -37,27 +37,28 @@ tested-refusal s =
     (λ (n : causeOf s .refusal ≡ 0 → ⊥). ap (λ (t : Tested). t .refusal) (tested-no s n))
     (equal-or-not (causeOf s .refusal) 0)
 
-module _ (s f h e d : List ℕ) {r : Checked} {f′ h′ e′ d′ : List ℕ} (told : Checking s draws f h e d r f′ h′ e′ d′)
-    (lf : length f ≡ 256) (lh : length h ≡ 256) (le : length e ≡ 256) (ld : length d ≡ 16128) where
-  own-none : ownCause draws (min (length f) (min (length h) (length e))) (length d) (testedOf s .count) ≡ 0
+module _ (s t e d : List ℕ) {r : Checked} {t′ e′ d′ : List ℕ} (told : Checking s draws t e d r t′ e′ d′) (lt : length t ≡ 512) (le : length e ≡ 256)
+    (ld : length d ≡ 16128) where
+  own-none : ownCause draws (length t) (length e) (length d) (testedOf s .count) ≡ 0
   own-none =
-      refuses-none draws (min (length f) (min (length h) (length e))) (length d) (testedOf s .count) (omega arith) (omega arith)
-      (omega (arith, lf, lh, le))
+      refuses-none draws (length t) (length e) (length d) (testedOf s .count) (omega arith) (omega arith)
+      (omega (arith, lt))
+      (omega (arith, le))
       (omega (arith, ld, enough (testedOf s .count) (tested-few s)))
 
-  cause-is : cause s draws f h e d .refusal ≡ testedOf s .refusal
+  cause-is : cause s draws t e d .refusal ≡ testedOf s .refusal
   cause-is =
       ⊎-elim
       (λ (z : testedOf s .refusal ≡ 0).
-      ap (λ (k : Cause). k .refusal) (cause-own (testedOf s) draws (min (length f) (min (length h) (length e))) (length d) z) ∙ own-none ∙ sym z)
+      ap (λ (k : Cause). k .refusal) (cause-own (testedOf s) draws (length t) (length e) (length d) z) ∙ own-none ∙ sym z)
       (λ (n : testedOf s .refusal ≡ 0 → ⊥).
-      ap (λ (k : Cause). k .refusal) (cause-log (testedOf s) draws (min (length f) (min (length h) (length e))) (length d) n))
+      ap (λ (k : Cause). k .refusal) (cause-log (testedOf s) draws (length t) (length e) (length d) n))
       (equal-or-not (testedOf s .refusal) 0)
 
-  answered : r .refusal ≡ cause s draws f h e d .refusal
+  answered : r .refusal ≡ cause s draws t e d .refusal
   answered =
       ap (λ (r : Checked). r .refusal) (told .answer)
-      ∙ checked-refusal (cause s draws f h e d .refusal) (cause s draws f h e d .entry) (pairs step draws s (count s)) (unprobed draws s (count s))
+      ∙ checked-refusal (cause s draws t e d .refusal) (cause s draws t e d .entry) (pairs step draws s (count s)) (unprobed draws s (count s))
 
   pub refusal-is : r .refusal ≡ causeOf s .refusal
   refusal-is = answered ∙ cause-is ∙ tested-refusal s
@@ -67,21 +68,21 @@ module _ (s f h e d : List ℕ) {r : Checked} {f′ h′ e′ d′ : List ℕ} (
   refused-text n =
       let k : r .entry ≡ causeOf s .entry =
       ap (λ (r : Checked). r .entry) (told .answer)
-      ∙ checked-entry (cause s draws f h e d .refusal) (cause s draws f h e d .entry) (pairs step draws s (count s)) (unprobed draws s (count s)) (λ z. n (answered ∙ z))
+      ∙ checked-entry (cause s draws t e d .refusal) (cause s draws t e d .entry) (pairs step draws s (count s)) (unprobed draws s (count s)) (λ z. n (answered ∙ z))
       ∙ ap (λ (k : Cause). k .entry)
-      (cause-log (testedOf s) draws (min (length f) (min (length h) (length e))) (length d) (λ z. n (answered ∙ cause-is ∙ z)))
+      (cause-log (testedOf s) draws (length t) (length e) (length d) (λ z. n (answered ∙ cause-is ∙ z)))
       ∙ ap (λ (t : Tested). t .entry) (tested-no s (λ z. n (refusal-is ∙ z))) in
       rw (refusal-is, k) (listing-refused s (λ z. n (refusal-is ∙ z)))
 
-  -- ON SUCCESS: t is what the log test answers
-  module _ (z : r .refusal ≡ 0) {t : Tested} (is : t ≡ testedOf s) where
+  -- ON SUCCESS: q is what the log test answers
+  module _ (z : r .refusal ≡ 0) {q : Tested} (is : q ≡ testedOf s) where
     numbers-told : (r .pairs ≡ length (pairs step draws s (count s))) × (r .unprobed ≡ unprobed draws s (count s))
     numbers-told =
         let g =
-        checked-numbers (cause s draws f h e d .refusal) (cause s draws f h e d .entry) (pairs step draws s (count s)) (unprobed draws s (count s)) (sym answered ∙ z) in
+        checked-numbers (cause s draws t e d .refusal) (cause s draws t e d .entry) (pairs step draws s (count s)) (unprobed draws s (count s)) (sym answered ∙ z) in
         (ap (λ (r : Checked). r .pairs) (told .answer) ∙ g .0, ap (λ (r : Checked). r .unprobed) (told .answer) ∙ g .1)
 
-    pub count-told : t .count ≡ count s
+    pub count-told : q .count ≡ count s
     count-told = ap (λ (t : Tested). t .count) is ∙ tested-count s (tested-refusal s ∙ sym refusal-is ∙ z)
 
     few : count s ≤ 64
@@ -94,7 +95,7 @@ module _ (s f h e d : List ℕ) {r : Checked} {f′ h′ e′ d′ : List ℕ} (
         (omega (arith, ld, length-numbers (pairs step draws s (count s)), pairs-few step draws s (count s) (omega arith), enough (count s) few))
         after
 
-    pub held-told : Holds s (t .count) d′ (r .pairs)
+    pub held-told : Holds s (q .count) d′ (r .pairs)
     held-told =
         record {
           count = ap (λ (t : Tested). t .count) is;
@@ -102,5 +103,5 @@ module _ (s f h e d : List ℕ) {r : Checked} {f′ h′ e′ d′ : List ℕ} (
           number = rw count-told (numbers-told .0);
         }
 
-    pub missed-told : r .unprobed ≡ unprobed draws s (t .count)
+    pub missed-told : r .unprobed ≡ unprobed draws s (q .count)
     missed-told = rw count-told (numbers-told .1)

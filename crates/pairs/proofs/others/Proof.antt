@@ -15,22 +15,22 @@ use Rattle.pairs.proofs.others.Statement.{statement}
 use Rattle.pairs.proofs.others.Tie as tie
 
 abbrev Inv-loop : tie.InvT-loop
-Inv-loop log count a probe pairs suffix₀ shift₀ memory₀ result₀ found₀ b₀ suffix shift memory result found b =
-    (b ≤ count) × Found (pairsWith step probe log a b) pairs result₀ found result × Worked (length probe) suffix₀ shift₀ memory₀ suffix shift memory
+Inv-loop log count a probe pairs tables₀ memory₀ result₀ found₀ b₀ tables memory result found b =
+    (b ≤ count) × Found (pairsWith step probe log a b) pairs result₀ found result × Worked (length probe) tables₀ memory₀ tables memory
 
 abbrev μ-loop : tie.MeasureT-loop
-μ-loop log count a probe pairs suffix₀ shift₀ memory₀ result₀ found₀ b₀ suffix shift memory result found b = count - b
+μ-loop log count a probe pairs tables₀ memory₀ result₀ found₀ b₀ tables memory result found b = count - b
 
 loop-holds : tie.Need-loop-holds Inv-loop μ-loop
 loop-holds c =
-    let s = c .before .before .before .before .before .before in
+    let s = c .before .before .before .before .before in
     let a = s .args in
     (omega arith, found-none (with-first step (a .probe .now) (a .log .now) (a .a)) (omega (arith, s .pre .0)), worked-none)
 
 pair-requires : tie.Need-pair-requires Inv-loop μ-loop
 pair-requires c κs =
-    let l = c .before .before .before .before .before in
-    let s = l .before .before .before .before .before .before .before in
+    let l = c .before .before .before .before in
+    let s = l .before .before .before .before .before .before in
     let a = s .args in
     let i = l .loop .inv in
     let h : a .a < testedOf (a .log .now) .count = omega (arith, s .pre .0) in (
@@ -54,9 +54,9 @@ loop-less c = omega arith
 
 loop-again : tie.Need-loop-again Inv-loop μ-loop
 loop-again c =
-    let call = c .before .before .before .before .before .before .before .before in
-    let l = call .before .before .before .before .before .before in
-    let a = l .before .before .before .before .before .before .before .args in
+    let call = c .before .before .before .before .before .before in
+    let l = call .before .before .before .before .before in
+    let a = l .before .before .before .before .before .before .args in
     let i = l .loop .inv in (
       omega arith,
       found-then (with-next step (a .probe .now) (a .log .now) (a .a) (l .loop .b)) (i .1) (call .pair .ensures .0),
@@ -64,21 +64,18 @@ loop-again c =
     )
 
 same-length : tie.Need-same-length Inv-loop μ-loop
-same-length c = c .before .loop .inv .2 .suffix .size
+same-length c = c .before .loop .inv .2 .tables .size
 
 same-length-2 : tie.Need-same-length-2 Inv-loop μ-loop
-same-length-2 c = c .before .loop .inv .2 .shift .size
+same-length-2 c = c .before .loop .inv .2 .memory .size
 
 same-length-3 : tie.Need-same-length-3 Inv-loop μ-loop
-same-length-3 c = c .before .loop .inv .2 .memory .size
-
-same-length-4 : tie.Need-same-length-4 Inv-loop μ-loop
-same-length-4 c = found-length (c .before .loop .inv .1)
+same-length-3 c = found-length (c .before .loop .inv .1)
 
 returns : tie.Need-returns Inv-loop μ-loop
 returns c =
     let l = c .before .loop in
-    let e : l .b ≡ c .before .before .before .before .before .before .before .before .args .count = omega arith in
+    let e : l .b ≡ c .before .before .before .before .before .before .before .args .count = omega arith in
     (rw e at (l .inv .1), l .inv .2)
 
 pub others-spec : {M : Type 1} → statement M
@@ -95,5 +92,4 @@ others-spec =
     same-length
     same-length-2
     same-length-3
-    same-length-4
     returns)

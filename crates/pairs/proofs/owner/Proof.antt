@@ -22,14 +22,14 @@ probe-size-requires c κs = search needs
 block-at-requires : tie.Need-block-at-requires
 block-at-requires c κs = search needs
 
-add-t16 : tie.Need-add-t16
-add-t16 c = search needs
+add-t15 : tie.Need-add-t15
+add-t15 c = search needs
 
 returns : tie.Need-returns
 returns c =
     let block = c .before .before in
     let size = block .before .probe-size in
-    let s = block .before .before .before .before .before .before .before in
+    let s = block .before .before .before .before .before .before in
     let a = s .args in
     let h : a .a < testedOf (a .log .now) .count = omega (arith, s .pre .0) in
     let l : lengthAt (a .log .now) (a .a) < probeSize (a .p) =
@@ -43,9 +43,9 @@ slice-aggregate-probe c = sym (length-take-le _ _ (omega arith))
 
 others-requires : tie.Need-others-requires
 others-requires c κs =
-    let block = c .before .before .before .before .before .before in
+    let block = c .before .before .before .before .before in
     let size = block .before .probe-size in
-    let s = block .before .before .before .before .before .before .before in
+    let s = block .before .before .before .before .before .before in
     let e : length (take (size .result) (block .block-at .result .now)) ≡ probeSize (s .args .p) = length-take-le _ _ (omega arith) ∙ size .ensures in
     ((s .pre .0 .0, s .pre .0 .2, s .pre .0 .4, s .pre .0 .5), rw e (s .pre .1))
 
@@ -58,16 +58,13 @@ same-length-2 c = search needs
 same-length-3 : tie.Need-same-length-3
 same-length-3 c = search needs
 
-same-length-4 : tie.Need-same-length-4
-same-length-4 c = search needs
-
 returns-2 : tie.Need-returns-2
 returns-2 c =
-    let call = c .before .before .before .before .before .before .before .before in
-    let if1 = call .before .before .before .before .before .before in
+    let call = c .before .before .before .before .before .before in
+    let if1 = call .before .before .before .before .before in
     let block = if1 .before in
     let size = block .before .probe-size in
-    let s = block .before .before .before .before .before .before .before in
+    let s = block .before .before .before .before .before .before in
     let a = s .args in
     let h : a .a < testedOf (a .log .now) .count = omega (arith, s .pre .0) in
     let l : size .result ≤ length (block .block-at .result .now) = omega (arith, if1 .if1 .left) in
@@ -87,12 +84,11 @@ owner-spec =
     (tie.spec
     probe-size-requires
     block-at-requires
-    add-t16
+    add-t15
     returns
     slice-aggregate-probe
     others-requires
     same-length
     same-length-2
     same-length-3
-    same-length-4
     returns-2)

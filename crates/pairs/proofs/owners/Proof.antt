@@ -14,22 +14,22 @@ use Rattle.pairs.proofs.owners.Statement.{statement}
 use Rattle.pairs.proofs.owners.Tie as tie
 
 abbrev Inv-loop : tie.InvT-loop
-Inv-loop log count p suffix₀ shift₀ memory₀ result₀ done₀ a₀ suffix shift memory result done a =
+Inv-loop log count p tables₀ memory₀ result₀ done₀ a₀ tables memory result done a =
     (a ≤ count) × Found (pairs step p log a) 0 result₀ (done .pairs) result × (done .unprobed ≡ unprobed p log a)
-    × Worked (probeSize p) suffix₀ shift₀ memory₀ suffix shift memory
+    × Worked (probeSize p) tables₀ memory₀ tables memory
 
 abbrev μ-loop : tie.MeasureT-loop
-μ-loop log count p suffix₀ shift₀ memory₀ result₀ done₀ a₀ suffix shift memory result done a = count - a
+μ-loop log count p tables₀ memory₀ result₀ done₀ a₀ tables memory result done a = count - a
 
 loop-holds : tie.Need-loop-holds Inv-loop μ-loop
 loop-holds c =
-    let a = c .before .before .before .before .before .args in
+    let a = c .before .before .before .before .args in
     (omega arith, found-none (pairs-first step (a .p) (a .log .now)) (omega arith), sym (unprobed-first (a .p) (a .log .now)), worked-none)
 
 owner-requires : tie.Need-owner-requires Inv-loop μ-loop
 owner-requires c κs =
-    let l = c .before .before .before .before .before in
-    let s = l .before .before .before .before .before .before in
+    let l = c .before .before .before .before in
+    let s = l .before .before .before .before .before in
     let a = s .args in
     let i = l .loop .inv in
     let h : l .loop .a < testedOf (a .log .now) .count = omega (arith, s .pre .0) in
@@ -55,9 +55,9 @@ loop-less c = omega arith
 
 loop-again : tie.Need-loop-again Inv-loop μ-loop
 loop-again c =
-    let call = c .before .before .before .before .before .before .before .before in
-    let l = call .before .before .before .before .before .before in
-    let a = l .before .before .before .before .before .before .args in
+    let call = c .before .before .before .before .before .before in
+    let l = call .before .before .before .before .before in
+    let a = l .before .before .before .before .before .args in
     let i = l .loop .inv in (
       omega arith,
       found-then (pairs-next step (a .p) (a .log .now) (l .loop .a)) (i .1) (call .owner .ensures .0),
@@ -66,21 +66,18 @@ loop-again c =
     )
 
 same-length : tie.Need-same-length Inv-loop μ-loop
-same-length c = c .before .loop .inv .3 .suffix .size
+same-length c = c .before .loop .inv .3 .tables .size
 
 same-length-2 : tie.Need-same-length-2 Inv-loop μ-loop
-same-length-2 c = c .before .loop .inv .3 .shift .size
+same-length-2 c = c .before .loop .inv .3 .memory .size
 
 same-length-3 : tie.Need-same-length-3 Inv-loop μ-loop
-same-length-3 c = c .before .loop .inv .3 .memory .size
-
-same-length-4 : tie.Need-same-length-4 Inv-loop μ-loop
-same-length-4 c = found-length (c .before .loop .inv .1)
+same-length-3 c = found-length (c .before .loop .inv .1)
 
 returns : tie.Need-returns Inv-loop μ-loop
 returns c =
     let l = c .before .loop in
-    let e : l .a ≡ c .before .before .before .before .before .before .before .args .count = omega arith in
+    let e : l .a ≡ c .before .before .before .before .before .before .args .count = omega arith in
     (rw e at (l .inv .1), (rw e at (l .inv .2), l .inv .3))
 
 pub owners-spec : {M : Type 1} → statement M
@@ -97,5 +94,4 @@ owners-spec =
     same-length
     same-length-2
     same-length-3
-    same-length-4
     returns)

@@ -11,7 +11,7 @@ use Rattle.pairs.proofs.pair.Tie as tie
 
 returns : tie.Need-returns
 returns c =
-    let s = c .before .before .before .before .before .before .before in
+    let s = c .before .before .before .before .before .before in
     let a = s .args in
     (found-none (with-self step (a .probe .now) (a .log .now) (a .a) (a .b) (c .if1 .taken)) (s .pre .0 .3), worked-none)
 
@@ -27,14 +27,11 @@ same-length c = search needs
 same-length-2 : tie.Need-same-length-2
 same-length-2 c = search needs
 
-same-length-3 : tie.Need-same-length-3
-same-length-3 c = search needs
-
 returns-2 : tie.Need-returns-2
 returns-2 c =
-    let call = c .before .before .before .before .before .before .before .before in
-    let block = call .before .before .before .before in
-    let s = block .before .before .before .before .before .before .before .before in
+    let call = c .before .before .before .before .before .before in
+    let block = call .before .before .before in
+    let s = block .before .before .before .before .before .before .before in
     let a = s .args in
     let g = sought (a .log .now) (a .b) (s .pre .0 .1) (block .block-at .ensures .bytes) (call .aligned .ensures) (s .pre .1 .1) in
     (found-none (with-none step (a .probe .now) (a .log .now) (a .a) (a .b) (block .before .if1 .left) (sym (g .number) ∙ c .if2 .taken)) (s .pre .0 .3), g .worked)
@@ -47,28 +44,31 @@ entry-requires-2 c κs = search needs
 
 cast-put : tie.Need-cast-put
 cast-put c =
-    let call = c .before .before .before .before .before .before .before .before .before .before .before .before in
-    let block = call .before .before .before .before in
-    let s = block .before .before .before .before .before .before .before .before in
+    let call = c .before .before .before .before .before .before .before .before .before .before in
+    let block = call .before .before .before in
+    let s = block .before .before .before .before .before .before .before in
     omega (arith, sought (s .args .log .now) (s .args .b) (s .pre .0 .1) (block .block-at .ensures .bytes) (call .aligned .ensures) (s .pre .1 .1) .near)
 
 cast-put-2 : tie.Need-cast-put-2
 cast-put-2 c =
-    let call = c .before .before .before .before .before .before .before .before .before .before .before .before .before in
-    let block = call .before .before .before .before in
-    let s = block .before .before .before .before .before .before .before .before in
+    let call = c .before .before .before .before .before .before .before .before .before .before .before in
+    let block = call .before .before .before in
+    let s = block .before .before .before .before .before .before .before in
     omega (arith, sought (s .args .log .now) (s .args .b) (s .pre .0 .1) (block .block-at .ensures .bytes) (call .aligned .ensures) (s .pre .1 .1) .few)
 
 put-requires : tie.Need-put-requires
 put-requires c κs =
-    let s = c .before .before .before .before .before .before .before .before .before .before .before .before .before .before .before .before .before .before .before .before .before .before .before .before .before in
-    let if1 = c .before .before .before .before .before .before .before .before .before .before .before .before .before .before .before .before .before .before in
+    let s = c .before .before .before .before .before .before .before .before .before .before .before .before .before .before .before .before .before .before .before .before .before in
+    let if1 = c .before .before .before .before .before .before .before .before .before .before .before .before .before .before .before in
     s .pre .1 .0 (if1 .if1 .left)
 
 add-result : tie.Need-add-result
 add-result c =
-    let s = c .before .before .before .before .before .before .before .before .before .before .before .before .before .before .before .before .before .before .before .before .before .before .before .before .before .before .before .before in
+    let s = c .before .before .before .before .before .before .before .before .before .before .before .before .before .before .before .before .before .before .before .before .before .before .before .before in
     omega (arith, s .pre .0)
+
+same-length-3 : tie.Need-same-length-3
+same-length-3 c = search needs
 
 same-length-4 : tie.Need-same-length-4
 same-length-4 c = search needs
@@ -76,19 +76,13 @@ same-length-4 c = search needs
 same-length-5 : tie.Need-same-length-5
 same-length-5 c = search needs
 
-same-length-6 : tie.Need-same-length-6
-same-length-6 c = search needs
-
-same-length-7 : tie.Need-same-length-7
-same-length-7 c = search needs
-
 returns-3 : tie.Need-returns-3
 returns-3 c =
     let put = c .before .before in
     let other = put .before .before .before .before in
-    let call = other .before .before .before .before .before .before .before .before .before .before in
-    let block = call .before .before .before .before in
-    let s = block .before .before .before .before .before .before .before .before in
+    let call = other .before .before .before .before .before .before .before .before in
+    let block = call .before .before .before in
+    let s = block .before .before .before .before .before .before .before in
     let a = s .args in
     let g = sought (a .log .now) (a .b) (s .pre .0 .1) (block .block-at .ensures .bytes) (call .aligned .ensures) (s .pre .1 .1) in (
       found-one
@@ -110,7 +104,6 @@ pair-spec =
     aligned-requires
     same-length
     same-length-2
-    same-length-3
     returns-2
     entry-requires
     entry-requires-2
@@ -118,8 +111,7 @@ pair-spec =
     cast-put-2
     put-requires
     add-result
+    same-length-3
     same-length-4
     same-length-5
-    same-length-6
-    same-length-7
     returns-3)

@@ -1,7 +1,7 @@
 -- Laws of what the private functions hand on: the work rooms, and the pairs found so far. Assumes nothing.
 use mathlib.Core.Path.{_≡_, refl, sym, _∙_}
 use mathlib.Core.List.{List, [], _∷_, _++_}
-use Prim.Native.Nat.{ℕ, _+_, _*_, _≤_, _<_, min}
+use Prim.Native.Nat.{ℕ, _+_, _*_, _≤_, _<_}
 use native.Mathlib.Nat.{add-zero}
 use native.Mathlib.Omega.{arith}
 use lib.ListN.{length, take, drop, length-append}
@@ -18,29 +18,26 @@ use Rattle.pairs.specs.Inside.{Worked, Ready, Found}
 use Rattle.pairs.specs.laws.Check.{numbers-append, length-numbers, block-is, block-short}
 
 -- WORK ROOMS
-module _ {m : ℕ} {f h e : List ℕ} where
-  pub worked-none : Worked m f h e f h e
-  worked-none = record { suffix = beyond-none; shift = beyond-none; memory = beyond-none }
+module _ {m : ℕ} {t e : List ℕ} where
+  pub worked-none : Worked m t e t e
+  worked-none = record { tables = beyond-none; memory = beyond-none }
 
-  pub worked-then : {f₁ h₁ e₁ f₂ h₂ e₂ : List ℕ} → Worked m f h e f₁ h₁ e₁ → Worked m f₁ h₁ e₁ f₂ h₂ e₂ → Worked m f h e f₂ h₂ e₂
-  worked-then u v =
-      record { suffix = beyond-then (u .suffix) (v .suffix); shift = beyond-then (u .shift) (v .shift); memory = beyond-then (u .memory) (v .memory) }
+  pub worked-then : {t₁ e₁ t₂ e₂ : List ℕ} → Worked m t e t₁ e₁ → Worked m t₁ e₁ t₂ e₂ → Worked m t e t₂ e₂
+  worked-then u v = record { tables = beyond-then (u .tables) (v .tables); memory = beyond-then (u .memory) (v .memory) }
 
   -- they can be searched with again
-  pub ready-again : {f₁ h₁ e₁ : List ℕ} → Ready m f h e → Worked m f h e f₁ h₁ e₁ → Ready m f₁ h₁ e₁
+  pub ready-again : {t₁ e₁ : List ℕ} → Ready m t e → Worked m t e t₁ e₁ → Ready m t₁ e₁
   ready-again r w =
       record {
         some = r .some;
         short = r .short;
-        suffix = omega (arith, r .suffix, w .suffix .size);
-        shift = omega (arith, r .shift, w .shift .size);
+        tables = omega (arith, r .tables, w .tables .size);
         memory = omega (arith, r .memory, w .memory .size);
       }
 
   -- a scan of a block refuses nothing
-  pub ready-accepted : (n : ℕ) → Ready m f h e → n ≤ 65536 → Accepted m n (min (length f) (min (length h) (length e)))
-  ready-accepted n r l =
-      record { some = r .some; short = r .short; small = omega arith; reaches = omega (arith, r .suffix, r .shift, r .memory) }
+  pub ready-accepted : (n : ℕ) → Ready m t e → n ≤ 65536 → Accepted m n (length t) (length e)
+  ready-accepted n r l = record { some = r .some; short = r .short; small = omega arith; tables = r .tables; memory = r .memory }
 
 -- THE PAIRS FOUND
 pub found-length : {qs : List Pair} {k k′ : ℕ} {d d′ : List ℕ} → Found qs k d k′ d′ → length d′ ≡ length d
@@ -68,22 +65,22 @@ pub found-within : {qs : List Pair} {k k′ : ℕ} {d d′ : List ℕ} → Found
 found-within {qs} g = omega (arith, g .number, g .laid .room, length-numbers qs)
 
 -- ONE SEARCH in block b: what it tells of the pair, and of the work rooms
-pub record Sought (d : ℕ) (x s : List ℕ) (b : ℕ) (f h e : List ℕ) (r : Tally) (f′ h′ e′ : List ℕ) : Type 0 where
+pub record Sought (d : ℕ) (x s : List ℕ) (b : ℕ) (t e : List ℕ) (r : Tally) (t′ e′ : List ℕ) : Type 0 where
   pub number : r .number ≡ length (multiples d (occurrences x (block s b)))
   pub first : r .first ≡ firstOf (multiples d (occurrences x (block s b)))
   pub few : r .number ≤ 65537
   pub near : r .first ≤ 65536
-  pub worked : Worked (length x) f h e f′ h′ e′
+  pub worked : Worked (length x) t e t′ e′
 
-pub sought : {d : ℕ} {x y f h e : List ℕ} {r : Tally} {f′ h′ e′ : List ℕ} (s : List ℕ) (b : ℕ) → b < testedOf s .count
-    → y ≡ take (listedOf s b .length) (drop (listedOf s b .start) s) → Aligning x y f h e d r f′ h′ e′ → Ready (length x) f h e → Sought d x s b f h e r f′ h′ e′
-sought {d} {x} {y} s b there e g ready =
-    let q : y ≡ block s b = e ∙ block-is s b there in
-    let t = counted (rw q at g) (ready-accepted (length (block s b)) ready (block-short s b there)) in
+pub sought : {d : ℕ} {x y t e : List ℕ} {r : Tally} {t′ e′ : List ℕ} (s : List ℕ) (b : ℕ) → b < testedOf s .count
+    → y ≡ take (listedOf s b .length) (drop (listedOf s b .start) s) → Aligning x y t e d r t′ e′ → Ready (length x) t e → Sought d x s b t e r t′ e′
+sought {d} {x} {y} s b there q g ready =
+    let z : y ≡ block s b = q ∙ block-is s b there in
+    let c = counted (rw z at g) (ready-accepted (length (block s b)) ready (block-short s b there)) in
     record {
-      number = t .number;
-      first = t .first;
-      few = omega (arith, t .few, block-short s b there);
-      near = omega (arith, t .near, block-short s b there);
-      worked = record { suffix = t .suffix; shift = t .shift; memory = t .memory };
+      number = c .number;
+      first = c .first;
+      few = omega (arith, c .few, block-short s b there);
+      near = omega (arith, c .near, block-short s b there);
+      worked = record { tables = c .tables; memory = c .memory };
     }

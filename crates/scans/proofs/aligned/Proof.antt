@@ -23,11 +23,8 @@ same-length c = search needs
 same-length-2 : tie.Need-same-length-2
 same-length-2 c = search needs
 
-same-length-3 : tie.Need-same-length-3
-same-length-3 c = search needs
-
 returns : tie.Need-returns
-returns c = let search = c .before .before .before .before .before .before .before .before in aligned-is (search .search .ensures) (c .tally-of .ensures)
+returns c = let search = c .before .before .before .before .before .before in aligned-is (search .search .ensures) (c .tally-of .ensures)
 
 pub aligned-spec : {M : Type 1} → statement M
 aligned-spec =
@@ -39,5 +36,4 @@ aligned-spec =
     tally-of-requires
     same-length
     same-length-2
-    same-length-3
     returns)

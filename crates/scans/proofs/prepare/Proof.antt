@@ -6,7 +6,7 @@ use lib.ListN.{length}
 use borrow.Author.Needs.{needs}
 use Rattle.basics.specs.laws.Rooms.{room-kept}
 use Rattle.tables.specs.declared.Occurrences.{Occurrences}
-use Rattle.tables.specs.laws.Promise.{both-written, occurrence-written}
+use Rattle.tables.specs.laws.Promise.{table-written, occurrence-written}
 use Rattle.scans.specs.laws.Refusal.{accepted}
 use Rattle.scans.proofs.prepare.Statement.{statement}
 use Rattle.scans.proofs.prepare.Tie as tie
@@ -18,8 +18,7 @@ returns : tie.Need-returns
 returns c =
     record {
       refusal = c .before .causes .ensures;
-      suffix = sym (room-kept _ _ _ (c .if1 .taken));
-      shift = sym (room-kept _ _ _ (c .if1 .taken));
+      tables = sym (room-kept _ _ _ (c .if1 .taken));
       byte = λ z. absurd (c .if1 .taken z);
     }
 
@@ -32,25 +31,20 @@ occurrence-requires c κs = search needs
 same-length : tie.Need-same-length
 same-length c = search needs
 
-same-length-2 : tie.Need-same-length-2
-same-length-2 c = search needs
-
 returns-2 : tie.Need-returns-2
 returns-2 c =
-    let if1 = c .before .before .before .before .before .before .before .before .before in
-    let s = if1 .before .before .before .before .before in
-    let a = s .args in
+    let both = c .before .before .before .before in
+    let if1 = both .before .before in
+    let a = if1 .before .before .before .before .args in
     let x = a .probe .now in
-    let z = accepted (length x) (a .n) (a .smallest) (if1 .before .causes .ensures) (if1 .if1 .left) in
-    let w = both-written (c .before .before .before .before .before .before .both .ensures) (z .some) (z .short) (omega (arith, z .reaches)) (omega (arith, z .reaches)) in
+    let z = accepted (length x) (a .n) (length (a .tables .now)) (a .e) (if1 .before .causes .ensures) (if1 .if1 .left) in
     record {
       refusal = sym (if1 .if1 .left) ∙ if1 .before .causes .ensures;
-      suffix = w .0;
-      shift = w .1;
+      tables = table-written (both .both .ensures) (z .some) (z .short) (z .tables);
       byte = λ e. ap (λ (r : Occurrences). r .table) (c .before .occurrence .ensures) ∙ occurrence-written x (z .some) (z .short);
     }
 
 pub prepare-spec : {M : Type 1} → statement M
 prepare-spec =
     tie.close
-    (tie.spec causes-requires returns both-requires occurrence-requires same-length same-length-2 returns-2)
+    (tie.spec causes-requires returns both-requires occurrence-requires same-length returns-2)

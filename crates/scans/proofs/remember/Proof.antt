@@ -22,22 +22,10 @@ same-length-2 c = search needs
 same-length-3 : tie.Need-same-length-3
 same-length-3 c = search needs
 
-same-length-4 : tie.Need-same-length-4
-same-length-4 c = search needs
-
 returns : tie.Need-returns
 returns c =
-    let s = c .before .before .before .before .before .before .before .before .before .search in
-    remember-is (s .ensures) (c .answer-of .ensures ∙ ap (answerBy (s .result)) (s .kept .1 .1 .1 .1 .1 .0))
+    let s = c .before .before .before .before .before .before .before .search in
+    remember-is (s .ensures) (c .answer-of .ensures ∙ ap (answerBy (s .result)) (s .kept .1 .1 .1 .1 .0))
 
 pub remember-spec : {M : Type 1} → statement M
-remember-spec =
-    tie.close
-    (tie.spec
-    search-requires
-    answer-of-requires
-    same-length
-    same-length-2
-    same-length-3
-    same-length-4
-    returns)
+remember-spec = tie.close (tie.spec search-requires answer-of-requires same-length same-length-2 same-length-3 returns)

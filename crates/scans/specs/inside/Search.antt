@@ -4,8 +4,7 @@ use mathlib.Core.List.{List}
 use Prim.Native.Nat.{ℕ, zero, suc, min}
 use lib.ListN.{length, replicate}
 use Rattle.basics.specs.Rooms.{roomAfter}
-use Rattle.tables.specs.Suffix.{suffixTable}
-use Rattle.tables.specs.Shift.{shiftTable}
+use Rattle.tables.specs.Both.{bothTables}
 use Rattle.tables.specs.Occurrence.{occurrenceTable}
 use Rattle.scans.specs.declared.Answer.{Answer}
 use Rattle.scans.specs.declared.Tally.{Tally}
@@ -40,17 +39,15 @@ answerBy s n =
 abbrev pub tallyBy : Searched → ℕ → Tally
 tallyBy s f = record { refusal = s .refusal; number = s .run .hits; first = f }
 
--- the remembering search, of the probe x, the stream y, the rooms s, h, e, p and the step d
-pub record Searching (x y s h e p : List ℕ) (d : ℕ) (r : Searched) (s′ h′ e′ p′ : List ℕ) : Type 0 where
-  pub answer : r ≡ searchedOf (refusalOf (length x) (length y) (min (length s) (min (length h) (length e)))) d (remembering x y)
-  pub suffix : s′ ≡ roomAfter (r .refusal) (suffixTable x) s
-  pub shift : h′ ≡ roomAfter (r .refusal) (shiftTable x) h
+-- the remembering search, of the probe x, the stream y, the rooms t, e, p and the step d
+pub record Searching (x y t e p : List ℕ) (d : ℕ) (r : Searched) (t′ e′ p′ : List ℕ) : Type 0 where
+  pub answer : r ≡ searchedOf (refusalOf (length x) (length y) (length t) (length e)) d (remembering x y)
+  pub tables : t′ ≡ roomAfter (r .refusal) (bothTables x) t
   pub memory : e′ ≡ roomAfter (r .refusal) (replicate (length x) 0) e
   pub places : p′ ≡ reportedAfter (r .refusal) (placesOf d (remembering x y)) p
 
--- the causes looked for and the tables written, of the probe x, a stream of n bytes, and work rooms of which the smallest has k entries
-pub record Preparing (x : List ℕ) (n k : ℕ) (s h : List ℕ) (r : Prepared) (s′ h′ : List ℕ) : Type 0 where
-  pub refusal : r .refusal ≡ refusalOf (length x) n k
-  pub suffix : s′ ≡ roomAfter (r .refusal) (suffixTable x) s
-  pub shift : h′ ≡ roomAfter (r .refusal) (shiftTable x) h
+-- the causes looked for and the tables written, of the probe x, a stream of n bytes, a memory room of e entries, and the room t for both tables
+pub record Preparing (x : List ℕ) (n e : ℕ) (t : List ℕ) (r : Prepared) (t′ : List ℕ) : Type 0 where
+  pub refusal : r .refusal ≡ refusalOf (length x) n (length t) e
+  pub tables : t′ ≡ roomAfter (r .refusal) (bothTables x) t
   pub byte : r .refusal ≡ 0 → r .occ ≡ occurrenceTable x

@@ -5,9 +5,8 @@ use Prim.Native.Nat.{ℕ, zero, suc, _+_, _-_, _≤_, _<_}
 use lib.ListN.{length, drop}
 use Rattle.basics.specs.Lists.{at}
 use Rattle.basics.specs.Rooms.{Begins}
-use Rattle.tables.specs.Suffix.{suffixTable}
 use Rattle.tables.specs.Refusal.{longest}
-use Rattle.tables.specs.Shift.{shiftTable}
+use Rattle.tables.specs.Both.{bothTables}
 use Rattle.tables.specs.Occurrence.{occurrenceTable}
 use Rattle.scans.specs.declared.windows.Seen.{Seen}
 use Rattle.scans.specs.declared.windows.Passed.{Passed}
@@ -54,14 +53,14 @@ pub record Ahead (x y : List ℕ) (j high low c : ℕ) (r : Seen) : Type 0 where
   pub all : r .left ≤ low → r .count + r .left ≡ c + high
   pub some : low < r .left → r .count + r .left ≡ c + high + 1
 
--- the shift room and the occurrence table are those of x
-pub record Moving (x shift occ : List ℕ) : Type 0 where
-  pub begins : Begins (shiftTable x) shift
+-- the room with both tables and the occurrence table are those of x
+pub record Moving (x tables occ : List ℕ) : Type 0 where
+  pub begins : Begins (bothTables x) tables
   pub byte : occ ≡ occurrenceTable x
 
--- the suffix room has its table, and the memory room is long enough
-pub record Recalling (x suffix mem : List ℕ) : Type 0 where
-  pub begins : Begins (suffixTable x) suffix
+-- the room with both tables is that of x, and the memory room is long enough
+pub record Recalling (x tables mem : List ℕ) : Type 0 where
+  pub begins : Begins (bothTables x) tables
   pub memory : length x ≤ length mem
 
 -- the room mem says from j on what R says, and R says nothing from top on

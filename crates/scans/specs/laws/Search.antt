@@ -1,16 +1,14 @@
 -- From what a search gives to what its call promises. Assumes nothing.
 use mathlib.Core.Path.{_≡_, refl, ap, _∙_}
 use mathlib.Core.List.{List, [], _∷_}
-use Prim.Native.Nat.{ℕ, zero, suc, _≤_, min}
+use Prim.Native.Nat.{ℕ, zero, suc, _*_, _≤_, min}
 use native.Mathlib.Omega.{arith}
 use lib.ListN.{length, replicate, length-replicate}
 use Rattle.basics.specs.Lists.{at}
-use Rattle.basics.specs.Rooms.{front, roomAfter, Begins}
+use Rattle.basics.specs.Rooms.{front, roomAfter}
 use Rattle.basics.specs.laws.Rooms.{Beyond, begins-front, beyond-front}
-use Rattle.tables.specs.Suffix.{suffixTable}
-use Rattle.tables.specs.Shift.{shiftTable}
-use Rattle.tables.specs.laws.Suffix.{length-suffixTable}
-use Rattle.tables.specs.laws.Shift.{length-shiftTable}
+use Rattle.tables.specs.Both.{bothTables}
+use Rattle.tables.specs.laws.Both.{length-bothTables}
 use Rattle.scans.specs.declared.Answer.{Answer}
 use Rattle.scans.specs.declared.Tally.{Tally}
 use Rattle.scans.specs.declared.Searched.{Searched}
@@ -61,106 +59,98 @@ reported-kept zero ps d h = absurd (h refl)
 reported-kept (suc k) ps d h = refl
 
 -- THE TABLES ARE READY where nothing was refused
-pub record Ready (x y s h occ : List ℕ) : Type 0 where
+pub record Ready (x y t occ : List ℕ) : Type 0 where
   pub sizes : Sizes x y
-  pub suffix : Begins (suffixTable x) s
-  pub moving : Moving x h occ
+  pub moving : Moving x t occ
 
-pub ready : {x : List ℕ} (y : List ℕ) {k : ℕ} {s h : List ℕ} {p : Prepared} {s′ h′ : List ℕ} → Preparing x (length y) k s h p s′ h′ → p .refusal ≡ 0
-    → k ≤ length s → k ≤ length h → (Ready x y s′ h′ (p .occ)) × (length x ≤ k)
-ready {x} y {k} {s} {h} {p} {s′} {h′} g z u v =
-    let a = accepted (length x) (length y) k (g .refusal) z in
-    let es : s′ ≡ front (suffixTable x) s = rw z at (g .suffix) in
-    let eh : h′ ≡ front (shiftTable x) h = rw z at (g .shift) in (
+pub ready : {x : List ℕ} (y : List ℕ) {e : ℕ} {t : List ℕ} {p : Prepared} {t′ : List ℕ} → Preparing x (length y) e t p t′ → p .refusal ≡ 0
+    → (Ready x y t′ (p .occ)) × (length x ≤ e)
+ready {x} y {e} {t} {p} {t′} g z =
+    let a = accepted (length x) (length y) (length t) e (g .refusal) z in
+    let q : t′ ≡ front (bothTables x) t = rw z at (g .tables) in (
       record {
         sizes = record { some = a .some; short = a .short; small = a .small };
-        suffix = begins-front (suffixTable x) s (omega (arith, a .reaches, length-suffixTable x)) es;
-        moving = record { begins = begins-front (shiftTable x) h (omega (arith, a .reaches, length-shiftTable x)) eh; byte = g .byte z };
+        moving = record { begins = begins-front (bothTables x) t (omega (arith, a .tables, length-bothTables x)) q; byte = g .byte z };
       },
-      a .reaches,
+      a .memory,
     )
 
 -- THE PROMISES, out of what was prepared and what was searched
-pub plain-is : {x y s h d : List ℕ} {k : ℕ} {p : Prepared} {r : Answer} {s′ h′ d′ : List ℕ} → k ≡ min (length s) (length h) → Preparing x (length y) k s h p s′ h′
-    → r ≡ answerBy (searchedOf (p .refusal) 1 (plain x y)) (length d) → d′ ≡ reportedAfter (p .refusal) (placesOf 1 (plain x y)) d → Plainly x y s h d r s′ h′ d′
-plain-is {x} {y} {s} {h} {d} {k} {p} {r} {s′} {h′} {d′} ek g e places =
+pub plain-is : {x y t d : List ℕ} {p : Prepared} {r : Answer} {t′ d′ : List ℕ} → Preparing x (length y) (length x) t p t′
+    → r ≡ answerBy (searchedOf (p .refusal) 1 (plain x y)) (length d) → d′ ≡ reportedAfter (p .refusal) (placesOf 1 (plain x y)) d → Plainly x y t d r t′ d′
+plain-is {x} {y} {t} {d} {p} {r} g e places =
     let ws = plain x y in
     let q : r .refusal ≡ p .refusal = ap (λ (r : Answer). r .refusal) e ∙ shown (p .refusal) 1 ws in
     record {
-      answer = e ∙ answer-is (p .refusal) ws (length d) ∙ ap (λ (k : ℕ). answerOf k ws (length d)) (g .refusal ∙ ap (refusalOf (length x) (length y)) ek);
-      suffix = rw q (g .suffix);
-      shift = rw q (g .shift);
+      answer = e ∙ answer-is (p .refusal) ws (length d) ∙ ap (λ (k : ℕ). answerOf k ws (length d)) (g .refusal);
+      tables = rw q (g .tables);
       places = rw (← multiples-one (positions ws), q) places;
     }
 
-pub search-is : {x y s h e d : List ℕ} {step k : ℕ} {p : Prepared} {r : Searched} {s′ h′ e′ d′ : List ℕ} → k ≡ min (length s) (min (length h) (length e))
-    → Preparing x (length y) k s h p s′ h′ → r ≡ searchedOf (p .refusal) step (remembering x y) → e′ ≡ roomAfter (p .refusal) (replicate (length x) 0) e
-    → d′ ≡ reportedAfter (p .refusal) (placesOf step (remembering x y)) d → Searching x y s h e d step r s′ h′ e′ d′
-search-is {x} {y} {s} {h} {e} {d} {step} {k} {p} {r} ek g q memory places =
+pub search-is : {x y t e d : List ℕ} {step : ℕ} {p : Prepared} {r : Searched} {t′ e′ d′ : List ℕ} → Preparing x (length y) (length e) t p t′
+    → r ≡ searchedOf (p .refusal) step (remembering x y) → e′ ≡ roomAfter (p .refusal) (replicate (length x) 0) e
+    → d′ ≡ reportedAfter (p .refusal) (placesOf step (remembering x y)) d → Searching x y t e d step r t′ e′ d′
+search-is {x} {y} {t} {e} {d} {step} {p} {r} g q memory places =
     let ws = remembering x y in
     let z : r .refusal ≡ p .refusal = ap (λ (r : Searched). r .refusal) q ∙ shown (p .refusal) step ws in
     record {
-      answer = q ∙ ap (λ (k : ℕ). searchedOf k step ws) (g .refusal ∙ ap (refusalOf (length x) (length y)) ek);
-      suffix = rw z (g .suffix);
-      shift = rw z (g .shift);
+      answer = q ∙ ap (λ (k : ℕ). searchedOf k step ws) (g .refusal);
+      tables = rw z (g .tables);
       memory = rw z memory;
       places = rw z places;
     }
 
 -- the cause for which a remembering search is refused
-abbrev causeOf : List ℕ → List ℕ → List ℕ → List ℕ → List ℕ → ℕ
-causeOf x y s h e = refusalOf (length x) (length y) (min (length s) (min (length h) (length e)))
+abbrev causeOf : List ℕ → List ℕ → List ℕ → List ℕ → ℕ
+causeOf x y t e = refusalOf (length x) (length y) (length t) (length e)
 
-pub remember-is : {x y s h e d : List ℕ} {q : Searched} {s′ h′ e′ d′ : List ℕ} {r : Answer} → Searching x y s h e d 1 q s′ h′ e′ d′
-    → r ≡ answerBy q (length d) → Rememberingly x y s h e d r s′ h′ e′ d′
-remember-is {x} {y} {s} {h} {e} {d} {q} {r = r} g p =
+pub remember-is : {x y t e d : List ℕ} {q : Searched} {t′ e′ d′ : List ℕ} {r : Answer} → Searching x y t e d 1 q t′ e′ d′ → r ≡ answerBy q (length d)
+    → Rememberingly x y t e d r t′ e′ d′
+remember-is {x} {y} {t} {e} {d} {q} {r = r} g p =
     let z : r .refusal ≡ q .refusal = ap (λ (r : Answer). r .refusal) p in
     let ws = remembering x y in
     record {
-      answer = p ∙ ap (λ (q : Searched). answerBy q (length d)) (g .answer) ∙ answer-is (causeOf x y s h e) ws (length d);
-      suffix = rw z (g .suffix);
-      shift = rw z (g .shift);
+      answer = p ∙ ap (λ (q : Searched). answerBy q (length d)) (g .answer) ∙ answer-is (causeOf x y t e) ws (length d);
+      tables = rw z (g .tables);
       memory = rw z (g .memory);
       places = rw (← multiples-one (positions ws), z) (g .places);
     }
 
 -- positions of the scan are the occurrences; where a cause refuses, no number is left of them
-places-are : (x y s h e : List ℕ) (step k : ℕ) → causeOf x y s h e ≡ k → tallyOf k (placesOf step (remembering x y)) ≡ tallyOf k (multiples step (occurrences x y))
+places-are : (x y t e : List ℕ) (step k : ℕ) → causeOf x y t e ≡ k → tallyOf k (placesOf step (remembering x y)) ≡ tallyOf k (multiples step (occurrences x y))
 unfolding tallyOf
-places-are x y s h e step zero c =
-    let some = accepted (length x) (length y) (min (length s) (min (length h) (length e))) refl c .some in
+places-are x y t e step zero c =
+    let some = accepted (length x) (length y) (length t) (length e) refl c .some in
     ap (λ (l : List ℕ). tallyOf 0 (multiples step l)) (demand2 x y some .remembered)
-places-are x y s h e step (suc k) c = refl
+places-are x y t e step (suc k) c = refl
 
 -- the first place stands in a room of one entry
-pub aligned-is : {x y s h e : List ℕ} {step : ℕ} {q : Searched} {s′ h′ e′ d′ : List ℕ} {r : Tally} → Searching x y s h e (0 ∷ []) step q s′ h′ e′ d′
-    → r ≡ tallyBy q (at d′ 0) → Aligning x y s h e step r s′ h′ e′
-aligned-is {x} {y} {s} {h} {e} {step} {q} {d′ = d′} {r = r} g p =
+pub aligned-is : {x y t e : List ℕ} {step : ℕ} {q : Searched} {t′ e′ d′ : List ℕ} {r : Tally} → Searching x y t e (0 ∷ []) step q t′ e′ d′
+    → r ≡ tallyBy q (at d′ 0) → Aligning x y t e step r t′ e′
+aligned-is {x} {y} {t} {e} {step} {q} {d′ = d′} {r = r} g p =
     let z : r .refusal ≡ q .refusal = ap (λ (r : Tally). r .refusal) p in
-    let k = causeOf x y s h e in
+    let k = causeOf x y t e in
     let ws = remembering x y in
     let c : q .refusal ≡ k = ap (λ (q : Searched). q .refusal) (g .answer) ∙ shown k step ws in
     record {
-      answer = p ∙ ap (λ (q : Searched). tallyBy q (at d′ 0)) (g .answer) ∙ tally-is k step ws (rw c at (g .places)) ∙ places-are x y s h e step k refl;
-      suffix = rw z (g .suffix);
-      shift = rw z (g .shift);
+      answer = p ∙ ap (λ (q : Searched). tallyBy q (at d′ 0)) (g .answer) ∙ tally-is k step ws (rw c at (g .places)) ∙ places-are x y t e step k refl;
+      tables = rw z (g .tables);
       memory = rw z (g .memory);
     }
 
 -- FOR THE LAYERS ABOVE: what an accepted search for the places at multiples of a step tells, without its tables
-pub record Counted (x y s h e : List ℕ) (d : ℕ) (r : Tally) (s′ h′ e′ : List ℕ) : Type 0 where
+pub record Counted (x y t e : List ℕ) (d : ℕ) (r : Tally) (t′ e′ : List ℕ) : Type 0 where
   pub number : r .number ≡ length (multiples d (occurrences x y))
   pub first : r .first ≡ firstOf (multiples d (occurrences x y))
   pub few : r .number ≤ suc (length y)
   pub near : r .first ≤ length y
-  pub suffix : Beyond (length x) s s′
-  pub shift : Beyond (length x) h h′
+  pub tables : Beyond (2 * length x) t t′
   pub memory : Beyond (length x) e e′
 
-pub counted : {x y s h e : List ℕ} {d : ℕ} {r : Tally} {s′ h′ e′ : List ℕ} → Aligning x y s h e d r s′ h′ e′
-    → Accepted (length x) (length y) (min (length s) (min (length h) (length e))) → Counted x y s h e d r s′ h′ e′
+pub counted : {x y t e : List ℕ} {d : ℕ} {r : Tally} {t′ e′ : List ℕ} → Aligning x y t e d r t′ e′ → Accepted (length x) (length y) (length t) (length e)
+    → Counted x y t e d r t′ e′
 unfolding tallyOf
-counted {x} {y} {s} {h} {e} {d} {r} {s′} {h′} {e′} g a =
+counted {x} {y} {t} {e} {d} {r} {t′} {e′} g a =
     let ps = multiples d (occurrences x y) in
     let q : r ≡ tallyOf 0 ps = g .answer ∙ ap (λ (k : ℕ). tallyOf k ps) (accepts a) in
     let z : r .refusal ≡ 0 = ap (λ (r : Tally). r .refusal) q in
@@ -171,7 +161,6 @@ counted {x} {y} {s} {h} {e} {d} {r} {s′} {h′} {e′} g a =
       first = first;
       few = omega (arith, number, multiples-few x y d);
       near = omega (arith, first, multiples-near x y d);
-      suffix = beyond-front (length x) (suffixTable x) s (rw z at (g .suffix)) (length-suffixTable x) (omega (arith, a .reaches));
-      shift = beyond-front (length x) (shiftTable x) h (rw z at (g .shift)) (length-shiftTable x) (omega (arith, a .reaches));
-      memory = beyond-front (length x) (replicate (length x) 0) e (rw z at (g .memory)) (length-replicate (length x) 0) (omega (arith, a .reaches));
+      tables = beyond-front (2 * length x) (bothTables x) t (rw z at (g .tables)) (length-bothTables x) (a .tables);
+      memory = beyond-front (length x) (replicate (length x) 0) e (rw z at (g .memory)) (length-replicate (length x) 0) (a .memory);
     }

@@ -22,7 +22,7 @@ returns c =
 by-byte-requires : tie.Need-by-byte-requires
 by-byte-requires c κs =
     let m = length (c .before .before .before .args .probe .now) in
-    omega (arith, sized m m (c .before .causes .ensures) (c .if1 .left))
+    omega (arith, sized 0 m 0 (c .before .causes .ensures) (c .if1 .left))
 
 returns-2 : tie.Need-returns-2
 returns-2 c =

@@ -43,7 +43,7 @@ unfolding occurrenceTable
 at-occurrenceTable x a h = at-table 256 (occurrenceAt x) a h
 
 -- what the call answers, by its refusal
-pub occurrence-by : (x : List ℕ) (r : ℕ) → r ≡ refusalOf (length x) (length x) → record { refusal = r; table = valueAfter r (occurrenceTable x) } ≡ occurrenceOf x
+pub occurrence-by : (x : List ℕ) (r : ℕ) → r ≡ refusalOf 0 (length x) 0 → record { refusal = r; table = valueAfter r (occurrenceTable x) } ≡ occurrenceOf x
 unfolding occurrenceOf
 occurrence-by x r e = rw e
 

@@ -1,5 +1,5 @@
 -- The shift entry lies from 1 to m, fits, and nothing smaller does; entry 0 is the period. Assumes nothing.
-use mathlib.Core.Path.{_≡_, _∙_}
+use mathlib.Core.Path.{_≡_}
 use mathlib.Core.Logic.{⊎-elim}
 use mathlib.Core.Bool.{true, false, not}
 use mathlib.Core.List.{List}
@@ -11,7 +11,6 @@ use lib.Dec.{eqb}
 use lib.ListN.{length}
 use lib.Seq.{slice}
 use Rattle.basics.specs.Lists.{at, same}
-use Rattle.basics.specs.Rooms.{Begins}
 use Rattle.basics.specs.laws.Tests.{and-true-both, le-or-lt}
 use Rattle.basics.specs.laws.Search.{least-from, least-le, least-passes, least-first, least-ext}
 use Rattle.basics.specs.laws.Lists.{slices-same, slices-agree, length-table, at-table}
@@ -126,10 +125,3 @@ length-shiftTable x = length-table (length x) (shiftAt x)
 pub at-shiftTable : (x : List ℕ) (i : ℕ) → i < length x → at (shiftTable x) i ≡ shiftAt x i
 unfolding shiftTable
 at-shiftTable x i h = at-table (length x) (shiftAt x) i h
-
--- a room that has the table in front
-pub shift-reaches : (x : List ℕ) {d : List ℕ} → Begins (shiftTable x) d → length x ≤ length d
-shift-reaches x b = omega (arith, b .reaches, length-shiftTable x)
-
-pub shift-entry : (x : List ℕ) {d : List ℕ} → Begins (shiftTable x) d → (i : ℕ) {r : ℕ} → r ≡ at d i → i < length x → r ≡ shiftAt x i
-shift-entry x b i e h = e ∙ b .entry i (omega (arith, length-shiftTable x)) ∙ at-shiftTable x i h

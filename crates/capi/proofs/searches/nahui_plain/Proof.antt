@@ -16,13 +16,10 @@ same-length c = search needs
 same-length-2 : tie.Need-same-length-2
 same-length-2 c = search needs
 
-same-length-3 : tie.Need-same-length-3
-same-length-3 c = search needs
-
 returns : tie.Need-returns
-returns c = (rw (c .for-c .ensures .0) (c .before .before .before .before .before .before .before .plain .ensures), c .for-c .ensures .1)
+returns c = (rw (c .for-c .ensures .0) (c .before .before .before .before .before .plain .ensures), c .for-c .ensures .1)
 
 pub nahui-plain-spec : {M : Type 1} → statement M
 nahui-plain-spec =
     tie.close
-    (tie.spec plain-requires for-c-requires same-length same-length-2 same-length-3 returns)
+    (tie.spec plain-requires for-c-requires same-length same-length-2 returns)

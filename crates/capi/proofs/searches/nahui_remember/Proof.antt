@@ -19,11 +19,8 @@ same-length-2 c = search needs
 same-length-3 : tie.Need-same-length-3
 same-length-3 c = search needs
 
-same-length-4 : tie.Need-same-length-4
-same-length-4 c = search needs
-
 returns : tie.Need-returns
-returns c = (rw (c .for-c .ensures .0) (c .before .before .before .before .before .before .before .before .before .remember .ensures), c .for-c .ensures .1)
+returns c = (rw (c .for-c .ensures .0) (c .before .before .before .before .before .before .before .remember .ensures), c .for-c .ensures .1)
 
 pub nahui-remember-spec : {M : Type 1} → statement M
 nahui-remember-spec =
@@ -34,5 +31,4 @@ nahui-remember-spec =
     same-length
     same-length-2
     same-length-3
-    same-length-4
     returns)

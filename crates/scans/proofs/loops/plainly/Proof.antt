@@ -16,10 +16,10 @@ use Rattle.scans.proofs.loops.plainly.Statement.{statement}
 use Rattle.scans.proofs.loops.plainly.Tie as tie
 
 abbrev Inv-loop : tie.InvT-loop
-Inv-loop x y shift occ room₀ j₀ hits₀ visited₀ count₀ room j hits visited count = PlainLoop x y room₀ room j hits visited count
+Inv-loop x y tables occ room₀ j₀ hits₀ visited₀ count₀ room j hits visited count = PlainLoop x y room₀ room j hits visited count
 
 abbrev μ-loop : tie.MeasureT-loop
-μ-loop x y shift occ room₀ j₀ hits₀ visited₀ count₀ room j hits visited count = length y + length x - j
+μ-loop x y tables occ room₀ j₀ hits₀ visited₀ count₀ room j hits visited count = length y + length x - j
 
 loop-holds : tie.Need-loop-holds Inv-loop μ-loop
 loop-holds c =

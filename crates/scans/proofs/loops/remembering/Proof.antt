@@ -15,7 +15,7 @@ clear-requires c κs = search needs
 
 through-requires : tie.Need-through-requires
 through-requires c κs =
-    let s = c .before .before .before .before .before .before .before .before .before .before .before .before in
+    let s = c .before .before .before .before .before .before .before .before .before .before .before in
     let x = s .args .x .now in
     let k = c .before .before .before .before .clear in
     let t = s .pre .1 .1 in
@@ -32,7 +32,7 @@ same-length-2 c = search needs
 
 returns : tie.Need-returns
 returns c =
-    let s = c .before .before .before .before .before .before .before .before .before .before .before .before .before .before .before .before .before .before .before .before .before in
+    let s = c .before .before .before .before .before .before .before .before .before .before .before .before .before .before .before .before .before .before .before .before in
     let x = s .args .x .now in
     let zeros = replicate {A = ℕ} (length x) 0 in
     let k = c .before .before .before .before .before .before .before .before .before .before .before .before .before .clear in
@@ -40,7 +40,7 @@ returns c =
     let e : length zeros ≡ length x = length-replicate {A = ℕ} (length x) 0 in
     let before : drop (length zeros) (k .last .0) ≡ drop (length zeros) (s .args .mem .now) =
     ap (drop (length zeros)) (cleared (length x) (s .args .mem .now) (s .pre .1 .1 .memory) (k .ensures)) ∙ drop-front zeros (s .args .mem .now) (length zeros) (omega arith) in
-    let last = cleared (length x) (r .last .1 .1 .1 .1 .1 .0) (omega (arith, s .pre .1 .1 .memory, k .kept .0, r .kept .1 .1 .1 .1 .1 .0)) (c .before .before .clear2 .ensures) in
+    let last = cleared (length x) (r .last .1 .1 .1 .1 .0) (omega (arith, s .pre .1 .1 .memory, k .kept .0, r .kept .1 .1 .1 .1 .0)) (c .before .before .clear2 .ensures) in
     (r .ensures .0, (r .ensures .1 .0, last ∙ ap (λ (l : List ℕ). zeros ++ l) (rw e (r .ensures .1 .1) ∙ before)))
 
 pub remembering-spec : {M : Type 1} → statement M

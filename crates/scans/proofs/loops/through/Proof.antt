@@ -19,16 +19,16 @@ use Rattle.scans.proofs.loops.through.Statement.{statement}
 use Rattle.scans.proofs.loops.through.Tie as tie
 
 abbrev Inv-loop : tie.InvT-loop
-Inv-loop x y suffix shift occ mem₀ room₀ step m p₀ top₀ hits₀ visited₀ count₀ mem room p top hits visited count =
+Inv-loop x y tables occ mem₀ room₀ step m p₀ top₀ hits₀ visited₀ count₀ mem room p top hits visited count =
     MemLoop x y room₀ room mem₀ mem step p top hits visited count
 
 abbrev μ-loop : tie.MeasureT-loop
-μ-loop x y suffix shift occ mem₀ room₀ step m p₀ top₀ hits₀ visited₀ count₀ mem room p top hits visited count =
+μ-loop x y tables occ mem₀ room₀ step m p₀ top₀ hits₀ visited₀ count₀ mem room p top hits visited count =
     length y + length x - p .at
 
 loop-holds : tie.Need-loop-holds Inv-loop μ-loop
 loop-holds c =
-    let s = c .before .before .before .before .before .before in
+    let s = c .before .before .before .before .before in
     let a = s .args in
     record {
       ps = [];
@@ -43,12 +43,12 @@ add-visited : tie.Need-add-visited Inv-loop μ-loop
 add-visited c = omega arith
 
 last-requires : tie.Need-last-requires Inv-loop μ-loop
-last-requires c κs = (record { sizes = c .before .before .before .before .before .before .before .before .before .pre .0; within = omega arith }, omega arith)
+last-requires c κs = (record { sizes = c .before .before .before .before .before .before .before .before .pre .0; within = omega arith }, omega arith)
 
 remembering-requires : tie.Need-remembering-requires Inv-loop μ-loop
 remembering-requires c κs =
     let l = c .before .before .before .before .before .loop in
-    let s = c .before .before .before .before .before .before .before .before .before .before .before .before in
+    let s = c .before .before .before .before .before .before .before .before .before .before .before in
     let t = s .pre .1 .1 .0 in (
       record { sizes = s .pre .0; within = omega arith },
       (
@@ -59,25 +59,25 @@ remembering-requires c κs =
 
 by-requires : tie.Need-by-requires Inv-loop μ-loop
 by-requires c κs =
-    let s = c .before .before .before .before .before .before .before .before .before .before .before .before .before in
+    let s = c .before .before .before .before .before .before .before .before .before .before .before .before in
     (record { sizes = s .pre .0; within = omega arith }, (s .pre .1 .0, c .remembering .ensures .1 .0))
 
 on-requires : tie.Need-on-requires Inv-loop μ-loop
 on-requires c κs =
     let l = c .before .before .before .before .before .before .before .loop in
-    let s = c .before .before .before .before .before .before .before .before .before .before .before .before .before .before in
+    let s = c .before .before .before .before .before .before .before .before .before .before .before .before .before in
     (omega (arith, c .by .ensures .1, l .inv .at .counted .place, s .pre .0 .some, s .pre .0 .short, s .pre .0 .small), l .inv .at .place)
 
 note-requires : tie.Need-note-requires Inv-loop μ-loop
 note-requires c κs =
     let l = c .before .before .before .before .before .before .before .before .before .loop in
-    omega (arith, noted-le (l .inv .noted), l .inv .at .counted, c .before .before .before .before .before .before .before .if1 .taken, c .before .before .before .before .before .before .before .before .before .before .before .before .before .before .before .before .pre .0)
+    omega (arith, noted-le (l .inv .noted), l .inv .at .counted, c .before .before .before .before .before .before .before .if1 .taken, c .before .before .before .before .before .before .before .before .before .before .before .before .before .before .before .pre .0)
 
 keep-requires : tie.Need-keep-requires Inv-loop μ-loop
 keep-requires c κs =
     let w = c .before .before .before .before .before .before .before .remembering .ensures .1 in
     let l = c .before .before .before .before .before .before .before .before .before .before .before .before .before .loop in
-    let s = c .before .before .before .before .before .before .before .before .before .before .before .before .before .before .before .before .before .before .before .before in
+    let s = c .before .before .before .before .before .before .before .before .before .before .before .before .before .before .before .before .before .before .before in
     (omega (arith, w, c .before .before .before .before .before .before .before .before .before .before .before .if1 .taken, l .inv .at .room, l .inv .at .under, s .pre .0 .some, s .pre .0 .short, s .pre .0 .small, s .pre .1 .1 .0 .memory), l .inv .at .place)
 
 loop-less : tie.Need-loop-less Inv-loop μ-loop
@@ -90,7 +90,7 @@ loop-again c =
     let w = c .before .before .before .before .before .before .before .before .before .before .remembering in
     let last = c .before .before .before .before .before .before .before .before .before .before .before .before .before .last in
     let l = c .before .before .before .before .before .before .before .before .before .before .before .before .before .before .before .before .loop in
-    let s = c .before .before .before .before .before .before .before .before .before .before .before .before .before .before .before .before .before .before .before .before .before .before .before in
+    let s = c .before .before .before .before .before .before .before .before .before .before .before .before .before .before .before .before .before .before .before .before .before .before in
     let a = s .args in
     let e = endOf (w .result .left) in
     let quiet = mem-quiet (l .inv .at .memory) (l .inv .at .under) in
@@ -105,13 +105,13 @@ loop-again c =
 
 by-requires-2 : tie.Need-by-requires-2 Inv-loop μ-loop
 by-requires-2 c κs =
-    let s = c .before .before .before .before .before .before .before .before .before .before .before in
+    let s = c .before .before .before .before .before .before .before .before .before .before in
     (record { sizes = s .pre .0; within = omega arith }, (s .pre .1 .0, omega arith))
 
 on-requires-2 : tie.Need-on-requires-2 Inv-loop μ-loop
 on-requires-2 c κs =
     let l = c .before .before .before .before .before .loop in
-    let s = c .before .before .before .before .before .before .before .before .before .before .before .before in
+    let s = c .before .before .before .before .before .before .before .before .before .before .before in
     (omega (arith, c .by2 .ensures .1, l .inv .at .counted .place, s .pre .0 .some, s .pre .0 .short, s .pre .0 .small), l .inv .at .place)
 
 loop-less-2 : tie.Need-loop-less-2 Inv-loop μ-loop
@@ -122,7 +122,7 @@ loop-again-2 : tie.Need-loop-again-2 Inv-loop μ-loop
 loop-again-2 c =
     let last = c .before .before .before .last in
     let l = c .before .before .before .before .before .before .loop in
-    let s = c .before .before .before .before .before .before .before .before .before .before .before .before .before in
+    let s = c .before .before .before .before .before .before .before .before .before .before .before .before in
     let a = s .args in
     let m = length (a .x .now) in
     let quiet = mem-quiet (l .inv .at .memory) (l .inv .at .under) in
@@ -145,7 +145,7 @@ same-length-2 c = noted-length (c .before .before .loop .inv .noted)
 returns : tie.Need-returns Inv-loop μ-loop
 returns c =
     let l = c .before .before .loop in
-    let a = c .before .before .before .before .before .before .before .before .before .args in
+    let a = c .before .before .before .before .before .before .before .before .args in
     let e = mem-end (a .x .now) (a .y .now) (l .inv .at .R) (l .inv .at .fuel) (l .p .at) (omega arith) in
     let g = l .inv .at .going in
     (going-run g e (l .inv .noted), (going-room g e (l .inv .noted), l .inv .at .rest))

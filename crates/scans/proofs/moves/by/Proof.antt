@@ -9,7 +9,7 @@ use lib.ListN.{length}
 use Rattle.basics.specs.Lists.{at}
 use Rattle.tables.specs.Shift.{shiftAt}
 use Rattle.tables.specs.Occurrence.{occurrenceAt}
-use Rattle.tables.specs.laws.Shift.{shift-reaches, shift-entry}
+use Rattle.tables.specs.laws.Both.{both-reaches, shift-there}
 use Rattle.tables.specs.laws.Occurrence.{at-occurrenceTable}
 use Rattle.scans.specs.Move.{move}
 use Rattle.scans.specs.inside.Window.{endOf}
@@ -24,14 +24,14 @@ bounded x y j left r h e = (e, (omega (arith, move-pos x y j (endOf left)), omeg
 entry-requires : tie.Need-entry-requires
 entry-requires c κs =
     let s = c .before .before .before .before in
-    omega (arith, s .pre .0 .sizes .some, shift-reaches (s .args .x .now) (s .pre .1 .0 .begins))
+    omega (arith, s .pre .0 .sizes .some, s .pre .0 .sizes .short, both-reaches (s .args .x .now) (s .pre .1 .0 .begins))
 
 returns : tie.Need-returns
 returns c =
     let s = c .before .before .before .before .before in
     let a = s .args in
     bounded (a .x .now) (a .y .now) (a .j) (a .left) (c .entry .result) (s .pre .0 .sizes .some)
-    (shift-entry (a .x .now) (s .pre .1 .0 .begins) 0 (c .entry .ensures) (s .pre .0 .sizes .some)
+    (shift-there (a .x .now) (s .pre .1 .0 .begins) 0 (c .entry .ensures) (s .pre .0 .sizes .some)
     ∙ sym (move-matched (a .x .now) (a .y .now) (a .j) (a .left) (omega (arith, c .before .if1 .taken))))
 
 sub-i : tie.Need-sub-i
@@ -40,7 +40,7 @@ sub-i c = search needs
 entry-requires-2 : tie.Need-entry-requires-2
 entry-requires-2 c κs =
     let s = c .before .before .before .before in
-    omega (arith, s .pre .0 .sizes .some, shift-reaches (s .args .x .now) (s .pre .1 .0 .begins))
+    omega (arith, s .pre .0 .sizes .some, s .pre .0 .sizes .short, both-reaches (s .args .x .now) (s .pre .1 .0 .begins))
 
 add-index : tie.Need-add-index
 add-index c = search needs
@@ -78,7 +78,7 @@ returns-2 c =
     let i = a .left - 1 in
     let e : a .left ≡ suc i = omega (arith, entry .before .if1 .left) in
     let byte = c .before .before .before .before .index in
-    let p : entry .entry2 .result ≡ shiftAt x i = shift-entry x (s .pre .1 .0 .begins) i (entry .entry2 .ensures) (omega arith) in
+    let p : entry .entry2 .result ≡ shiftAt x i = shift-there x (s .pre .1 .0 .begins) i (entry .entry2 .ensures) (omega arith) in
     let o : c .before .before .wide .result ≡ occurrenceAt x (at (a .y .now) (a .j + i)) =
     c .before .before .wide .ensures
     ∙ ap (λ (l : List ℕ). at l (byte .result)) (s .pre .1 .0 .byte)

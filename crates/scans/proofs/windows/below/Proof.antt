@@ -7,7 +7,7 @@ use borrow.Author.Needs.{needs}
 use borrow.Author.Tests.{eqb-true, eqb-false, not-true, not-false}
 use lib.ListN.{length}
 use Rattle.basics.specs.Lists.{at}
-use Rattle.tables.specs.laws.Suffix.{suffix-reaches, suffix-entry}
+use Rattle.tables.specs.laws.Both.{both-reaches, suffix-there}
 use Rattle.scans.specs.Remember.{memFrom}
 use Rattle.scans.specs.inside.Slots.{recalled}
 use Rattle.scans.specs.inside.Window.{passedOf}
@@ -17,12 +17,12 @@ use Rattle.scans.proofs.windows.below.Statement.{statement}
 use Rattle.scans.proofs.windows.below.Tie as tie
 
 abbrev Inv-loop : tie.InvT-loop
-Inv-loop x y suffix mem start from count m k₀ c₀ k c =
+Inv-loop x y tables mem start from count m k₀ c₀ k c =
     (k ≤ from) × (c + k ≤ count + from)
     × (passedOf (memFrom x y (recalled mem (length x)) (start .at) k k) c ≡ passedOf (memFrom x y (recalled mem (length x)) (start .at) from from) count)
 
 abbrev μ-loop : tie.MeasureT-loop
-μ-loop x y suffix mem start from count m k₀ c₀ k c = k
+μ-loop x y tables mem start from count m k₀ c₀ k c = k
 
 loop-holds : tie.Need-loop-holds Inv-loop μ-loop
 loop-holds c = (omega arith, omega arith, refl)
@@ -81,12 +81,12 @@ loop-again c =
 entry-requires : tie.Need-entry-requires Inv-loop μ-loop
 entry-requires c κs =
     let s = c .before .before .before .before .before .before .before .before .before in
-    omega (arith, suffix-reaches (s .args .x .now) (s .pre .1 .0 .begins))
+    omega (arith, s .pre .0 .sizes .short, both-reaches (s .args .x .now) (s .pre .1 .0 .begins))
 
 sub-k : tie.Need-sub-k Inv-loop μ-loop
 sub-k c =
     let s = c .before .before .before .before .before .before .before .before .before .before .before in
-    omega (arith, suffix-entry (s .args .x .now) (s .pre .1 .0 .begins) (c .before .before .before .before .before .before .loop .k - 1) (c .before .entry .ensures) (omega arith))
+    omega (arith, suffix-there (s .args .x .now) (s .pre .1 .0 .begins) (c .before .before .before .before .before .before .loop .k - 1) (c .before .entry .ensures) (omega arith))
 
 loop-less-2 : tie.Need-loop-less-2 Inv-loop μ-loop
 loop-less-2 c = omega arith
@@ -96,7 +96,7 @@ loop-again-2 c =
     let s = c .before .before .before .before .before .before .before .before .before .before .before in
     let a = s .args in
     let l = c .before .before .before .before .before .before .loop in
-    let e = suffix-entry (a .x .now) (s .pre .1 .0 .begins) (l .k - 1) (c .before .entry .ensures) (omega arith) in (
+    let e = suffix-there (a .x .now) (s .pre .1 .0 .begins) (l .k - 1) (c .before .entry .ensures) (omega arith) in (
       omega arith,
       omega arith,
       rule-skips (a .x .now) (a .y .now) (a .mem .now) (a .start .at) (l .k) (l .k - 1) (l .c) (omega arith) (c .before .before .before .before .on .ensures) (c .before .before .before .recall .ensures)
@@ -112,7 +112,7 @@ returns-2 c =
     let s = c .before .before .before .before .before .before .before .before .before .before .before .before .before in
     let a = s .args in
     let l = c .before .before .before .before .before .before .before .before .loop in
-    let e = suffix-entry (a .x .now) (s .pre .1 .0 .begins) (l .k - 1) (c .before .before .before .entry .ensures) (omega arith) in
+    let e = suffix-there (a .x .now) (s .pre .1 .0 .begins) (l .k - 1) (c .before .before .before .entry .ensures) (omega arith) in
     c .ended2 .ensures
     ∙ rule-matches (a .x .now) (a .y .now) (a .mem .now) (a .start .at) (l .k) (l .k - 1) (l .c) (omega arith) (c .before .before .before .before .before .before .on .ensures) (c .before .before .before .before .before .recall .ensures)
     (e .0) (c .before .before .if3 .left) (c .before .if4 .taken)
@@ -121,7 +121,7 @@ returns-2 c =
 sub-stop : tie.Need-sub-stop Inv-loop μ-loop
 sub-stop c =
     let s = c .before .before .before .before .before .before .before .before .before .before .before .before in
-    omega (arith, suffix-entry (s .args .x .now) (s .pre .1 .0 .begins) (c .before .before .before .before .before .before .before .loop .k - 1) (c .before .before .entry .ensures) (omega arith))
+    omega (arith, suffix-there (s .args .x .now) (s .pre .1 .0 .begins) (c .before .before .before .before .before .before .before .loop .k - 1) (c .before .before .entry .ensures) (omega arith))
 
 sub-behind : tie.Need-sub-behind Inv-loop μ-loop
 sub-behind c = omega arith
@@ -134,7 +134,7 @@ returns-3 c =
     let s = c .before .before .before .before .before .before .before .before .before .before .before .before .before in
     let a = s .args in
     let l = c .before .before .before .before .before .before .before .before .loop in
-    let e = suffix-entry (a .x .now) (s .pre .1 .0 .begins) (l .k - 1) (c .before .before .before .entry .ensures) (omega arith) in
+    let e = suffix-there (a .x .now) (s .pre .1 .0 .begins) (l .k - 1) (c .before .before .before .entry .ensures) (omega arith) in
     c .ended3 .ensures
     ∙ rule-stops (a .x .now) (a .y .now) (a .mem .now) (a .start .at) (l .k) (l .k - 1) (l .c) (omega arith) (c .before .before .before .before .before .before .on .ensures) (c .before .before .before .before .before .recall .ensures)
     (e .0) (c .before .before .if3 .left) (c .before .if4 .left) (omega (arith, e .1))
