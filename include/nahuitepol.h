@@ -2,10 +2,10 @@
  * Nahuitepol: exact search for a probe in a stream, and draw logs, written and checked for overlaps.
  *
  * A lent array is a pointer and the count of its elements (not of its bytes). The pointer may be NULL where
- * the count is 0. A const array is read only. A "room" is an array that the call may write to: work rooms,
- * position rooms and result rooms all hold 32-bit numbers, the writer's output room holds bytes. A room may be
- * longer than needed; what a call does not promise to write stays as it was, and what a room holds before the
- * call does not matter.
+ * the count is 0. A const array is read only. A "room" is an array that the call may write to: a room for both
+ * tables holds 16-bit numbers, the writer's output room holds bytes, and all others hold 32-bit numbers. A room
+ * may be longer than needed; what a call does not promise to write stays as it was, and what a room holds before
+ * the call does not matter.
  *
  * THE CALLER'S ONE DUTY, beyond lending as many elements as each count says: lent rooms overlap neither each
  * other nor the inputs. With that kept, every input gets an answer.
@@ -17,7 +17,8 @@
  *    1   probe has no bytes
  *    2   probe over 4,096 bytes
  *    3   stream over 16,777,216 bytes
- *    4   a work room has fewer entries than the probe has bytes (in the check: fewer than 8p)
+ *    4   a work room is too short for a probe of m bytes (in the check, m is 8p): the room for both tables has
+ *        fewer than 2m numbers, or the room for one of them or for the memory fewer than m
  *    5   result room of the check below 4 * c * (c - 1) numbers, for c replicates
  *   10   log under 12 bytes
  *   11   log over 65,536 bytes (in the writer: it would be)
@@ -121,6 +122,13 @@ uint32_t nahui_suffix(const uint8_t *probe, size_t probe_len, uint32_t *room, si
 uint32_t nahui_shift(const uint8_t *probe, size_t probe_len, uint32_t *room, size_t room_len);
 
 /*
+ * Writes both tables to the first 2m numbers of room, in pairs: for each index the suffix entry, then the shift
+ * entry. Answers the refusal: 0, 1, 2 or 4.
+ *   room   at least 2m numbers; those from 2m on stay as they were
+ */
+uint32_t nahui_tables(const uint8_t *probe, size_t probe_len, uint16_t *room, size_t room_len);
+
+/*
  * Answers the occurrence table by value: for byte a the smallest k from 1 to m - 1 with x[m-1-k] = a, and m
  * where there is none. The refusal is 0, 1 or 2.
  */
@@ -131,10 +139,10 @@ nahui_occurrences nahui_occurrence(const uint8_t *probe, size_t probe_len);
  * bytes, 0 to 16,777,216. The refusal is 0, 1, 2, 3 or 4. Both find the same positions at the same windows;
  * the remembering scan never makes more comparisons than the plain one, and for n >= m at most 2n - m + 1.
  *
- *   suffix, shift   work rooms of at least m entries; end with the two tables in their first m entries
- *   memory          work room of at least m entries; ends with 0 in its first m entries
- *   positions       takes the first positions, ascending, as far as it reaches; it may have any length, and
- *                   entries beyond those written stay as they were
+ *   tables      work room of at least 2m numbers; ends with the pairs of nahui_tables in its first 2m numbers
+ *   memory      work room of at least m entries; ends with 0 in its first m entries
+ *   positions   takes the first positions, ascending, as far as it reaches; it may have any length, and entries
+ *               beyond those written stay as they were
  *
  * For n < m the search succeeds: the rooms end as said, and the four numbers are 0.
  */
@@ -142,15 +150,13 @@ nahui_occurrences nahui_occurrence(const uint8_t *probe, size_t probe_len);
 /* Searches by the plain Boyer-Moore scan. */
 nahui_searched nahui_plain(const uint8_t *probe, size_t probe_len,
                            const uint8_t *stream, size_t stream_len,
-                           uint32_t *suffix, size_t suffix_len,
-                           uint32_t *shift, size_t shift_len,
+                           uint16_t *tables, size_t tables_len,
                            uint32_t *positions, size_t positions_len);
 
 /* Searches by the remembering scan after Apostolico and Giancarlo. */
 nahui_searched nahui_remember(const uint8_t *probe, size_t probe_len,
                               const uint8_t *stream, size_t stream_len,
-                              uint32_t *suffix, size_t suffix_len,
-                              uint32_t *shift, size_t shift_len,
+                              uint16_t *tables, size_t tables_len,
                               uint32_t *memory, size_t memory_len,
                               uint32_t *positions, size_t positions_len);
 
@@ -186,15 +192,16 @@ nahui_written nahui_log_write(const uint8_t *blocks, size_t blocks_len,
  * owner with a shorter block is unprobed. Every other block b is searched for it, at every byte offset.
  * The refusal is 0, 10 to 17, 20, 4 or 5.
  *
- *   suffix, shift, memory   work rooms of at least 8p entries each, whether or not any owner is probed; end
- *                           with 0 in their first 8p entries
- *   result                  at least 4 * c * (c - 1) numbers for c replicates; takes four numbers for each
- *                           overlapping pair, owners ascending, then b ascending: id of a, id of b, first
- *                           offset from the start of b's block, number of occurrences; the rest stays as it was
+ *   tables   work room of at least 16p numbers, the first 16p of which end at 0
+ *   memory   work room of at least 8p entries, the first 8p of which end at 0
+ *   result   at least 4 * c * (c - 1) numbers for c replicates; takes four numbers for each overlapping pair,
+ *            owners ascending, then b ascending: id of a, id of b, first offset from the start of b's block,
+ *            number of occurrences; the rest stays as it was
+ *
+ * The work rooms are asked for, and end so, whether or not any owner is probed.
  */
 nahui_checked nahui_check(const uint8_t *log, size_t log_len, uint32_t p,
-                          uint32_t *suffix, size_t suffix_len,
-                          uint32_t *shift, size_t shift_len,
+                          uint16_t *tables, size_t tables_len,
                           uint32_t *memory, size_t memory_len,
                           uint32_t *result, size_t result_len);
 

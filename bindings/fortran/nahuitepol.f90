@@ -10,7 +10,8 @@
 !>    1  probe has no bytes
 !>    2  probe over 4,096 bytes
 !>    3  stream over 16,777,216 bytes
-!>    4  a work room has fewer entries than the probe has bytes (in the check: fewer than 8p)
+!>    4  a work room is too short for a probe of m bytes (in the check, m is 8p): the room for both tables has
+!>       fewer than 2m numbers, or the room for one of them or for the memory fewer than m
 !>    5  result room of the check below 4 c (c - 1) numbers, for c replicates
 !>   10  log under 12 bytes
 !>   11  log over 65,536 bytes (in the writer: it would be)
@@ -27,13 +28,14 @@
 !>   31  ids and lengths differ in number
 !>
 !> Positions, offsets, entries and table indices count from 0, as in C. Fortran has no unsigned integers: an id
-!> from 2**31 on comes as a negative number, and nahui_unsigned gives its value.
+!> from 2**31 on comes as a negative number, and nahui_unsigned gives its value. Table entries are at most 4,096,
+!> and so never negative.
 module nahuitepol
-  use, intrinsic :: iso_c_binding, only: c_int8_t, c_int32_t, c_int64_t, c_size_t
+  use, intrinsic :: iso_c_binding, only: c_int8_t, c_int16_t, c_int32_t, c_int64_t, c_size_t
   implicit none
   private
 
-  public :: nahui_suffix, nahui_shift, nahui_occurrence
+  public :: nahui_suffix, nahui_shift, nahui_tables, nahui_occurrence
   public :: nahui_plain, nahui_remember
   public :: nahui_log_test, nahui_log_find, nahui_log_write
   public :: nahui_check
@@ -88,6 +90,14 @@ module nahuitepol
       integer(c_int32_t) :: refusal
     end function c_shift
 
+    function c_tables(probe, probe_len, room, room_len) result(refusal) bind(c, name='nahui_tables')
+      import :: c_int8_t, c_int16_t, c_int32_t, c_size_t
+      integer(c_int8_t), intent(in) :: probe(*)
+      integer(c_size_t), value :: probe_len, room_len
+      integer(c_int16_t), intent(inout) :: room(*)
+      integer(c_int32_t) :: refusal
+    end function c_tables
+
     function c_occurrence(probe, probe_len) result(answer) bind(c, name='nahui_occurrence')
       import :: c_int8_t, c_size_t, nahui_occurrences
       integer(c_int8_t), intent(in) :: probe(*)
@@ -95,21 +105,23 @@ module nahuitepol
       type(nahui_occurrences) :: answer
     end function c_occurrence
 
-    function c_plain(probe, probe_len, stream, stream_len, suffix, suffix_len, shift, shift_len, &
-        positions, positions_len) result(answer) bind(c, name='nahui_plain')
-      import :: c_int8_t, c_int32_t, c_size_t, nahui_searched
+    function c_plain(probe, probe_len, stream, stream_len, tables, tables_len, positions, positions_len) &
+        result(answer) bind(c, name='nahui_plain')
+      import :: c_int8_t, c_int16_t, c_int32_t, c_size_t, nahui_searched
       integer(c_int8_t), intent(in) :: probe(*), stream(*)
-      integer(c_size_t), value :: probe_len, stream_len, suffix_len, shift_len, positions_len
-      integer(c_int32_t), intent(inout) :: suffix(*), shift(*), positions(*)
+      integer(c_size_t), value :: probe_len, stream_len, tables_len, positions_len
+      integer(c_int16_t), intent(inout) :: tables(*)
+      integer(c_int32_t), intent(inout) :: positions(*)
       type(nahui_searched) :: answer
     end function c_plain
 
-    function c_remember(probe, probe_len, stream, stream_len, suffix, suffix_len, shift, shift_len, &
-        memory, memory_len, positions, positions_len) result(answer) bind(c, name='nahui_remember')
-      import :: c_int8_t, c_int32_t, c_size_t, nahui_searched
+    function c_remember(probe, probe_len, stream, stream_len, tables, tables_len, memory, memory_len, &
+        positions, positions_len) result(answer) bind(c, name='nahui_remember')
+      import :: c_int8_t, c_int16_t, c_int32_t, c_size_t, nahui_searched
       integer(c_int8_t), intent(in) :: probe(*), stream(*)
-      integer(c_size_t), value :: probe_len, stream_len, suffix_len, shift_len, memory_len, positions_len
-      integer(c_int32_t), intent(inout) :: suffix(*), shift(*), memory(*), positions(*)
+      integer(c_size_t), value :: probe_len, stream_len, tables_len, memory_len, positions_len
+      integer(c_int16_t), intent(inout) :: tables(*)
+      integer(c_int32_t), intent(inout) :: memory(*), positions(*)
       type(nahui_searched) :: answer
     end function c_remember
 
@@ -138,13 +150,14 @@ module nahuitepol
       type(nahui_written) :: answer
     end function c_log_write
 
-    function c_check(log, log_len, p, suffix, suffix_len, shift, shift_len, memory, memory_len, &
-        result_room, result_len) result(answer) bind(c, name='nahui_check')
-      import :: c_int8_t, c_int32_t, c_size_t, nahui_checked
+    function c_check(log, log_len, p, tables, tables_len, memory, memory_len, result_room, result_len) &
+        result(answer) bind(c, name='nahui_check')
+      import :: c_int8_t, c_int16_t, c_int32_t, c_size_t, nahui_checked
       integer(c_int8_t), intent(in) :: log(*)
-      integer(c_size_t), value :: log_len, suffix_len, shift_len, memory_len, result_len
+      integer(c_size_t), value :: log_len, tables_len, memory_len, result_len
       integer(c_int32_t), value :: p
-      integer(c_int32_t), intent(inout) :: suffix(*), shift(*), memory(*), result_room(*)
+      integer(c_int16_t), intent(inout) :: tables(*)
+      integer(c_int32_t), intent(inout) :: memory(*), result_room(*)
       type(nahui_checked) :: answer
     end function c_check
   end interface
@@ -169,6 +182,16 @@ contains
     refusal = c_shift(probe, size(probe, kind=c_size_t), room, size(room, kind=c_size_t))
   end function nahui_shift
 
+  !> Writes both tables of the probe to the front of the room, for each index the suffix entry, then the shift
+  !> entry, and answers the refusal: 0, 1, 2 or 4. The room needs two numbers for each byte of the probe.
+  function nahui_tables(probe, room) result(refusal)
+    integer(c_int8_t), intent(in), contiguous :: probe(:)
+    integer(c_int16_t), intent(inout), contiguous :: room(:)
+    integer(c_int32_t) :: refusal
+
+    refusal = c_tables(probe, size(probe, kind=c_size_t), room, size(room, kind=c_size_t))
+  end function nahui_tables
+
   !> The occurrence table of the probe. The refusal is 0, 1 or 2.
   function nahui_occurrence(probe) result(answer)
     integer(c_int8_t), intent(in), contiguous :: probe(:)
@@ -177,28 +200,29 @@ contains
     answer = c_occurrence(probe, size(probe, kind=c_size_t))
   end function nahui_occurrence
 
-  !> Searches the stream for the probe by the plain scan. The suffix and shift rooms need an entry for each byte
-  !> of the probe; the position room takes the first positions as far as it reaches. The refusal is 0 to 4.
-  function nahui_plain(probe, stream, suffix, shift, positions) result(answer)
+  !> Searches the stream for the probe by the plain scan. The tables room needs two numbers for each byte of the
+  !> probe; the position room takes the first positions as far as it reaches. The refusal is 0 to 4.
+  function nahui_plain(probe, stream, tables, positions) result(answer)
     integer(c_int8_t), intent(in), contiguous :: probe(:), stream(:)
-    integer(c_int32_t), intent(inout), contiguous :: suffix(:), shift(:), positions(:)
+    integer(c_int16_t), intent(inout), contiguous :: tables(:)
+    integer(c_int32_t), intent(inout), contiguous :: positions(:)
     type(nahui_searched) :: answer
 
     answer = c_plain(probe, size(probe, kind=c_size_t), stream, size(stream, kind=c_size_t), &
-        suffix, size(suffix, kind=c_size_t), shift, size(shift, kind=c_size_t), &
-        positions, size(positions, kind=c_size_t))
+        tables, size(tables, kind=c_size_t), positions, size(positions, kind=c_size_t))
   end function nahui_plain
 
   !> Searches the stream for the probe by the remembering scan: as nahui_plain, with the same positions and never
-  !> more comparisons. The memory room, too, needs an entry for each byte of the probe.
-  function nahui_remember(probe, stream, suffix, shift, memory, positions) result(answer)
+  !> more comparisons. The memory room needs an entry for each byte of the probe.
+  function nahui_remember(probe, stream, tables, memory, positions) result(answer)
     integer(c_int8_t), intent(in), contiguous :: probe(:), stream(:)
-    integer(c_int32_t), intent(inout), contiguous :: suffix(:), shift(:), memory(:), positions(:)
+    integer(c_int16_t), intent(inout), contiguous :: tables(:)
+    integer(c_int32_t), intent(inout), contiguous :: memory(:), positions(:)
     type(nahui_searched) :: answer
 
     answer = c_remember(probe, size(probe, kind=c_size_t), stream, size(stream, kind=c_size_t), &
-        suffix, size(suffix, kind=c_size_t), shift, size(shift, kind=c_size_t), &
-        memory, size(memory, kind=c_size_t), positions, size(positions, kind=c_size_t))
+        tables, size(tables, kind=c_size_t), memory, size(memory, kind=c_size_t), &
+        positions, size(positions, kind=c_size_t))
   end function nahui_remember
 
   !> Tests a draw log and answers its number of replicates. The refusal is 0 or 10 to 17.
@@ -232,18 +256,19 @@ contains
         lengths, size(lengths, kind=c_size_t), out, size(out, kind=c_size_t))
   end function nahui_log_write
 
-  !> Searches every block of the log for the first p draws (8p bytes) of every other one. The three work rooms
-  !> need 8p entries each; the result room needs 4 c (c - 1) numbers for c replicates and takes four for each
-  !> overlapping pair: owner, searched id, first offset, occurrences. The refusal is 0, 10 to 17, 20, 4 or 5.
-  function nahui_check(log, p, suffix, shift, memory, result_room) result(answer)
+  !> Searches every block of the log for the first p draws (8p bytes) of every other one. The tables room needs
+  !> 16p numbers, the memory room 8p; the result room needs 4 c (c - 1) numbers for c replicates and takes four
+  !> for each overlapping pair: owner, searched id, first offset, occurrences. The refusal is 0, 10 to 17, 20, 4
+  !> or 5.
+  function nahui_check(log, p, tables, memory, result_room) result(answer)
     integer(c_int8_t), intent(in), contiguous :: log(:)
     integer(c_int32_t), intent(in) :: p
-    integer(c_int32_t), intent(inout), contiguous :: suffix(:), shift(:), memory(:), result_room(:)
+    integer(c_int16_t), intent(inout), contiguous :: tables(:)
+    integer(c_int32_t), intent(inout), contiguous :: memory(:), result_room(:)
     type(nahui_checked) :: answer
 
-    answer = c_check(log, size(log, kind=c_size_t), p, suffix, size(suffix, kind=c_size_t), &
-        shift, size(shift, kind=c_size_t), memory, size(memory, kind=c_size_t), &
-        result_room, size(result_room, kind=c_size_t))
+    answer = c_check(log, size(log, kind=c_size_t), p, tables, size(tables, kind=c_size_t), &
+        memory, size(memory, kind=c_size_t), result_room, size(result_room, kind=c_size_t))
   end function nahui_check
 
   !> The value of a 32-bit number without a sign.

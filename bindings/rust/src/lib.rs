@@ -11,7 +11,7 @@
 //! | 1 | probe has no bytes |
 //! | 2 | probe over 4,096 bytes |
 //! | 3 | stream over 16,777,216 bytes |
-//! | 4 | a work room has fewer entries than the probe has bytes (in the check: fewer than 8p) |
+//! | 4 | work room below 2m numbers for both tables, below m for one or the memory, m probe bytes (in the check 8p) |
 //! | 5 | result room of the check below 4·c·(c − 1) numbers, c replicates |
 //! | 10 | log under 12 bytes |
 //! | 11 | log over 65,536 bytes (in the writer: it would be) |
@@ -30,11 +30,8 @@
 //! Rooms may be longer than needed, and may hold anything before the call.
 //!
 //! ```
-//! let (mut suffix, mut shift, mut memory) = ([0; 4], [0; 4], [0; 4]);
-//! let mut positions = [0; 8];
-//! let answer = nahuitepol::remember(
-//!     b"abab", b"ababab", &mut suffix, &mut shift, &mut memory, &mut positions,
-//! );
+//! let (mut tables, mut memory, mut positions) = ([0; 8], [0; 4], [0; 8]);
+//! let answer = nahuitepol::remember(b"abab", b"ababab", &mut tables, &mut memory, &mut positions);
 //! assert_eq!((answer.refusal, answer.occurrences, answer.comparisons), (0, 2, 6));
 //! assert_eq!(positions[..2], [0, 2]);
 //! ```
@@ -146,6 +143,22 @@ pub fn shift(probe: &[u8], room: &mut [u32]) -> u32 {
     unsafe { raw::nahui_shift(probe.as_ptr(), probe.len(), room.as_mut_ptr(), room.len()) }
 }
 
+/// Writes both tables of the probe to the front of the room, in pairs, and answers the refusal: 0, 1, 2 or 4.
+///
+/// For each index the suffix entry, then the shift entry. The room needs two numbers for each byte of the probe;
+/// further ones stay as they were.
+///
+/// ```
+/// let mut room = [7; 9];
+/// assert_eq!(nahuitepol::tables(b"abab", &mut room), 0);
+/// assert_eq!(room, [0, 2, 2, 2, 0, 4, 4, 1, 7]);
+/// ```
+#[inline]
+pub fn tables(probe: &[u8], room: &mut [u16]) -> u32 {
+    // SAFETY: as in `suffix`.
+    unsafe { raw::nahui_tables(probe.as_ptr(), probe.len(), room.as_mut_ptr(), room.len()) }
+}
+
 /// The occurrence table of the probe. The refusal is 0, 1 or 2.
 ///
 /// For each byte: how far before the probe's last place it stands last, the last place itself left out; the
@@ -164,23 +177,18 @@ pub fn occurrence(probe: &[u8]) -> Occurrences {
 
 /// Searches the stream for the probe by the plain Boyer-Moore scan. The refusal is 0, 1, 2, 3 or 4.
 ///
-/// The suffix and shift rooms need an entry for each byte of the probe and end with the tables in front. The
-/// position room takes the first positions as far as it reaches; it may have any length.
+/// The tables room needs two numbers for each byte of the probe and ends with the pairs of [`tables`] in front.
+/// The position room takes the first positions as far as it reaches; it may have any length.
 ///
 /// ```
-/// let mut positions = [9; 3];
-/// let answer = nahuitepol::plain(b"abab", b"ababab", &mut [0; 4], &mut [0; 4], &mut positions);
+/// let (mut tables, mut positions) = ([7; 9], [9; 3]);
+/// let answer = nahuitepol::plain(b"abab", b"ababab", &mut tables, &mut positions);
 /// assert_eq!((answer.occurrences, answer.windows, answer.comparisons), (2, 2, 8));
+/// assert_eq!(tables, [0, 2, 2, 2, 0, 4, 4, 1, 7]);
 /// assert_eq!(positions, [0, 2, 9]);
 /// ```
 #[inline]
-pub fn plain(
-    probe: &[u8],
-    stream: &[u8],
-    suffix: &mut [u32],
-    shift: &mut [u32],
-    positions: &mut [u32],
-) -> Searched {
+pub fn plain(probe: &[u8], stream: &[u8], tables: &mut [u16], positions: &mut [u32]) -> Searched {
     // SAFETY: pointers and counts are those of live slices, and the borrows keep the rooms apart from each other
     // and from the inputs.
     unsafe {
@@ -189,10 +197,8 @@ pub fn plain(
             probe.len(),
             stream.as_ptr(),
             stream.len(),
-            suffix.as_mut_ptr(),
-            suffix.len(),
-            shift.as_mut_ptr(),
-            shift.len(),
+            tables.as_mut_ptr(),
+            tables.len(),
             positions.as_mut_ptr(),
             positions.len(),
         )
@@ -201,13 +207,12 @@ pub fn plain(
 
 /// Searches the stream for the probe by the remembering scan. The refusal is 0, 1, 2, 3 or 4.
 ///
-/// As [`plain`], with the same positions and windows and never more comparisons. The memory room, too, needs an
-/// entry for each byte of the probe; these end at 0.
+/// As [`plain`], with the same positions and windows and never more comparisons. The memory room needs an entry for
+/// each byte of the probe; these end at 0.
 ///
 /// ```
 /// let mut memory = [9; 5];
-/// let answer =
-///     nahuitepol::remember(b"abab", b"ababab", &mut [0; 4], &mut [0; 4], &mut memory, &mut []);
+/// let answer = nahuitepol::remember(b"abab", b"ababab", &mut [0; 8], &mut memory, &mut []);
 /// assert_eq!((answer.occurrences, answer.written, answer.comparisons), (2, 0, 6));
 /// assert_eq!(memory, [0, 0, 0, 0, 9]);
 /// ```
@@ -215,8 +220,7 @@ pub fn plain(
 pub fn remember(
     probe: &[u8],
     stream: &[u8],
-    suffix: &mut [u32],
-    shift: &mut [u32],
+    tables: &mut [u16],
     memory: &mut [u32],
     positions: &mut [u32],
 ) -> Searched {
@@ -227,10 +231,8 @@ pub fn remember(
             probe.len(),
             stream.as_ptr(),
             stream.len(),
-            suffix.as_mut_ptr(),
-            suffix.len(),
-            shift.as_mut_ptr(),
-            shift.len(),
+            tables.as_mut_ptr(),
+            tables.len(),
             memory.as_mut_ptr(),
             memory.len(),
             positions.as_mut_ptr(),
@@ -301,33 +303,24 @@ pub fn log_write(blocks: &[u8], ids: &[u32], lengths: &[u32], out: &mut [u8]) ->
 /// Searches every block of the log for the first p draws (8p bytes) of every other one. The refusal is 0,
 /// 10 to 17, 20, 4 or 5.
 ///
-/// The three work rooms need 8p entries each; these end at 0. The result room needs 4·c·(c − 1) numbers for c
-/// replicates and takes four for each overlapping pair: owner, searched id, first offset in the searched block,
-/// occurrences.
+/// The tables room needs 16p numbers, the memory room 8p; these end at 0. The result room needs 4·c·(c − 1)
+/// numbers for c replicates and takes four for each overlapping pair: owner, searched id, first offset in the
+/// searched block, occurrences.
 ///
 /// ```
-/// let answer = nahuitepol::check(b"no log", 32, &mut [0; 256], &mut [0; 256], &mut [0; 256], &mut []);
+/// let answer = nahuitepol::check(b"no log", 32, &mut [0; 512], &mut [0; 256], &mut []);
 /// assert_eq!((answer.refusal, answer.pairs, answer.unprobed), (10, 0, 0));
 /// ```
 #[inline]
-pub fn check(
-    log: &[u8],
-    p: u32,
-    suffix: &mut [u32],
-    shift: &mut [u32],
-    memory: &mut [u32],
-    result: &mut [u32],
-) -> Checked {
+pub fn check(log: &[u8], p: u32, tables: &mut [u16], memory: &mut [u32], result: &mut [u32]) -> Checked {
     // SAFETY: as in `plain`.
     unsafe {
         raw::nahui_check(
             log.as_ptr(),
             log.len(),
             p,
-            suffix.as_mut_ptr(),
-            suffix.len(),
-            shift.as_mut_ptr(),
-            shift.len(),
+            tables.as_mut_ptr(),
+            tables.len(),
             memory.as_mut_ptr(),
             memory.len(),
             result.as_mut_ptr(),

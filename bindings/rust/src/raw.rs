@@ -7,6 +7,8 @@ extern "C" {
 
     pub fn nahui_shift(probe: *const u8, probe_len: usize, room: *mut u32, room_len: usize) -> u32;
 
+    pub fn nahui_tables(probe: *const u8, probe_len: usize, room: *mut u16, room_len: usize) -> u32;
+
     pub fn nahui_occurrence(probe: *const u8, probe_len: usize) -> Occurrences;
 
     pub fn nahui_plain(
@@ -14,10 +16,8 @@ extern "C" {
         probe_len: usize,
         stream: *const u8,
         stream_len: usize,
-        suffix: *mut u32,
-        suffix_len: usize,
-        shift: *mut u32,
-        shift_len: usize,
+        tables: *mut u16,
+        tables_len: usize,
         positions: *mut u32,
         positions_len: usize,
     ) -> Searched;
@@ -27,10 +27,8 @@ extern "C" {
         probe_len: usize,
         stream: *const u8,
         stream_len: usize,
-        suffix: *mut u32,
-        suffix_len: usize,
-        shift: *mut u32,
-        shift_len: usize,
+        tables: *mut u16,
+        tables_len: usize,
         memory: *mut u32,
         memory_len: usize,
         positions: *mut u32,
@@ -56,10 +54,8 @@ extern "C" {
         log: *const u8,
         log_len: usize,
         p: u32,
-        suffix: *mut u32,
-        suffix_len: usize,
-        shift: *mut u32,
-        shift_len: usize,
+        tables: *mut u16,
+        tables_len: usize,
         memory: *mut u32,
         memory_len: usize,
         result: *mut u32,
