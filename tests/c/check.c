@@ -17,12 +17,12 @@ static bool refuses(nahui_checked answer, uint32_t number, uint32_t entry)
 static void check_of_the_document_log(void)
 {
     const uint32_t pair[] = {3, 7, 64, 1};
-    uint32_t *suffix = room(256), *shift = room(257), *memory = room(258), *result = room(24);
-    nahui_checked answer = nahui_check(document_log(), DOCUMENT_LOG_LENGTH, 32, suffix, 256, shift, 257,
-                                       memory, 258, result, 24);
+    uint16_t *tables = tables_room(515);
+    uint32_t *memory = room(258), *result = room(24);
+    nahui_checked answer = nahui_check(document_log(), DOCUMENT_LOG_LENGTH, 32, tables, 515, memory, 258,
+                                       result, 24);
     EXPECT(answers(answer, 1, 1));
-    EXPECT(zeros_in_front(suffix, 256, 256));
-    EXPECT(zeros_in_front(shift, 257, 256));
+    EXPECT(tables_zero_in_front(tables, 515, 512));
     EXPECT(zeros_in_front(memory, 258, 256));
     EXPECT(holds_just(result, 24, pair, 4));
 }
@@ -30,33 +30,39 @@ static void check_of_the_document_log(void)
 static void one_replicate(void)
 {
     const uint8_t least_log[24] = {5, 0, 0, 0, 0, 0, 0, 0, 0, 0, 0, 0, 0, 0, 0, 0, 1, 0, 0, 0, 'D', 'R', 'A', 'W'};
-    uint32_t *suffix = room(8), *shift = room(8), *memory = room(8);
-    EXPECT(answers(nahui_check(bytes(least_log, 24), 24, 1, suffix, 8, shift, 8, memory, 8, NULL, 0), 0, 1));
-    EXPECT(zeros_in_front(suffix, 8, 8) && zeros_in_front(shift, 8, 8) && zeros_in_front(memory, 8, 8));
+    uint16_t *tables = tables_room(16);
+    uint32_t *memory = room(8);
+    EXPECT(answers(nahui_check(bytes(least_log, 24), 24, 1, tables, 16, memory, 8, NULL, 0), 0, 1));
+    EXPECT(tables_zero_in_front(tables, 16, 16) && zeros_in_front(memory, 8, 8));
 }
 
 static void refusals_in_their_order(void)
 {
-    uint32_t *suffix = room(256), *shift = room(256), *memory = room(256), *result = room(24);
+    uint16_t *tables = tables_room(512);
+    uint32_t *memory = room(256), *result = room(24);
     const uint8_t *log = document_log();
     const size_t n = DOCUMENT_LOG_LENGTH;
-    EXPECT(refuses(nahui_check(NULL, 0, 0, NULL, 0, NULL, 0, NULL, 0, NULL, 0), 10, 0));
-    EXPECT(refuses(nahui_check(log, n, 0, suffix, 255, shift, 256, memory, 256, result, 23), 20, 0));
-    EXPECT(refuses(nahui_check(log, n, 513, suffix, 256, shift, 256, memory, 256, result, 24), 20, 0));
-    EXPECT(refuses(nahui_check(log, n, 32, suffix, 255, shift, 256, memory, 256, result, 23), 4, 0));
-    EXPECT(refuses(nahui_check(log, n, 32, suffix, 256, shift, 255, memory, 256, result, 24), 4, 0));
-    EXPECT(refuses(nahui_check(log, n, 32, suffix, 256, shift, 256, memory, 255, result, 24), 4, 0));
-    EXPECT(refuses(nahui_check(log, n, 32, suffix, 256, shift, 256, memory, 256, result, 23), 5, 0));
-    EXPECT(untouched(suffix, 256) && untouched(shift, 256) && untouched(memory, 256) && untouched(result, 24));
+    EXPECT(refuses(nahui_check(NULL, 0, 0, NULL, 0, NULL, 0, NULL, 0), 10, 0));
+    EXPECT(refuses(nahui_check(log, n, 0, tables, 511, memory, 256, result, 23), 20, 0));
+    EXPECT(refuses(nahui_check(log, n, 513, tables, 512, memory, 256, result, 24), 20, 0));
+    EXPECT(refuses(nahui_check(log, n, 32, tables, 511, memory, 256, result, 23), 4, 0));
+    EXPECT(refuses(nahui_check(log, n, 32, tables, 511, memory, 256, result, 24), 4, 0));
+    EXPECT(refuses(nahui_check(log, n, 32, tables, 256, memory, 256, result, 24), 4, 0));
+    EXPECT(refuses(nahui_check(log, n, 32, NULL, 0, memory, 256, result, 24), 4, 0));
+    EXPECT(refuses(nahui_check(log, n, 32, tables, 512, memory, 255, result, 24), 4, 0));
+    EXPECT(refuses(nahui_check(log, n, 32, tables, 512, memory, 255, result, 23), 4, 0));
+    EXPECT(refuses(nahui_check(log, n, 32, tables, 511, memory, 255, result, 23), 4, 0));
+    EXPECT(refuses(nahui_check(log, n, 32, tables, 512, memory, 256, result, 23), 5, 0));
+    EXPECT(tables_untouched(tables, 512) && untouched(memory, 256) && untouched(result, 24));
 }
 
 static void a_refused_log(void)
 {
-    uint32_t *suffix = room(256), *shift = room(256), *memory = room(256), *result = room(24);
+    uint16_t *tables = tables_room(512);
+    uint32_t *memory = room(256), *result = room(24);
     const uint8_t *odd_length = document_log_with(DOCUMENT_DIRECTORY + 24 + 8, 41);
-    EXPECT(refuses(nahui_check(odd_length, DOCUMENT_LOG_LENGTH, 32, suffix, 256, shift, 256, memory, 256,
-                               result, 24), 17, 2));
-    EXPECT(untouched(suffix, 256) && untouched(shift, 256) && untouched(memory, 256) && untouched(result, 24));
+    EXPECT(refuses(nahui_check(odd_length, DOCUMENT_LOG_LENGTH, 32, tables, 512, memory, 256, result, 24), 17, 2));
+    EXPECT(tables_untouched(tables, 512) && untouched(memory, 256) && untouched(result, 24));
 }
 
 /* The blocks have 32, 40 and 5 draws. From p = 6 on only 3's probe occurs elsewhere, in 7. */
@@ -64,14 +70,14 @@ static void every_p(void)
 {
     for (uint32_t p = 1; p <= 512; p++) {
         size_t need = 8 * (size_t)p;
-        uint32_t *suffix = room(need), *shift = room(need), *memory = room(need), *result = room(24);
-        nahui_checked answer = nahui_check(document_log(), DOCUMENT_LOG_LENGTH, p, suffix, need, shift, need,
-                                           memory, need, result, 24);
+        uint16_t *tables = tables_room(2 * need);
+        uint32_t *memory = room(need), *result = room(24);
+        nahui_checked answer = nahui_check(document_log(), DOCUMENT_LOG_LENGTH, p, tables, 2 * need, memory, need,
+                                           result, 24);
         EXPECT(answer.refusal == 0);
         EXPECT(answer.unprobed == (uint32_t)(p > 32) + (uint32_t)(p > 40) + (uint32_t)(p > 5));
         EXPECT(p <= 5 || answer.pairs == (p <= 32 ? 1 : 0));
-        EXPECT(zeros_in_front(suffix, need, need));
-        EXPECT(zeros_in_front(shift, need, need));
+        EXPECT(tables_zero_in_front(tables, 2 * need, 2 * need));
         EXPECT(zeros_in_front(memory, need, need));
         give_arrays_back();
     }

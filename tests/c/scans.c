@@ -6,8 +6,7 @@
 
 #include <string.h>
 
-static const uint32_t abab_suffix[] = {0, 2, 0, 4};
-static const uint32_t abab_shift[] = {2, 2, 4, 1};
+static const uint16_t abab_pairs[] = {0, 2, 2, 2, 0, 4, 4, 1};
 
 static bool answers(nahui_searched answer, uint64_t occurrences, uint64_t written, uint64_t windows,
                     uint64_t comparisons)
@@ -25,65 +24,87 @@ static bool refuses(nahui_searched answer, uint32_t number)
 static void plain_scan(void)
 {
     const uint32_t found[] = {0, 2};
-    uint32_t *suffix = room(4), *shift = room(5), *positions = room(3);
-    nahui_searched answer =
-        nahui_plain(bytes("abab", 4), 4, bytes("ababab", 6), 6, suffix, 4, shift, 5, positions, 3);
+    uint16_t *tables = tables_room(8);
+    uint32_t *positions = room(3);
+    nahui_searched answer = nahui_plain(bytes("abab", 4), 4, bytes("ababab", 6), 6, tables, 8, positions, 3);
     EXPECT(answers(answer, 2, 2, 2, 8));
-    EXPECT(holds_just(suffix, 4, abab_suffix, 4));
-    EXPECT(holds_just(shift, 5, abab_shift, 4));
+    EXPECT(tables_hold_just(tables, 8, abab_pairs, 8));
     EXPECT(holds_just(positions, 3, found, 2));
 }
 
 static void remembering_scan(void)
 {
     const uint32_t found[] = {0, 2};
-    uint32_t *suffix = room(4), *shift = room(5), *memory = room(6), *positions = room(2);
-    nahui_searched answer = nahui_remember(bytes("abab", 4), 4, bytes("ababab", 6), 6, suffix, 4, shift, 5,
-                                           memory, 6, positions, 2);
+    uint16_t *tables = tables_room(8);
+    uint32_t *memory = room(6), *positions = room(2);
+    nahui_searched answer = nahui_remember(bytes("abab", 4), 4, bytes("ababab", 6), 6, tables, 8, memory, 6,
+                                           positions, 2);
     EXPECT(answers(answer, 2, 2, 2, 6));
-    EXPECT(holds_just(suffix, 4, abab_suffix, 4));
-    EXPECT(holds_just(shift, 5, abab_shift, 4));
+    EXPECT(tables_hold_just(tables, 8, abab_pairs, 8));
     EXPECT(zeros_in_front(memory, 6, 4));
     EXPECT(holds_just(positions, 2, found, 2));
+}
+
+static void longer_tables_rooms(void)
+{
+    const uint8_t *probe = bytes("abab", 4), *stream = bytes("ababab", 6);
+    for (size_t length = 9; length <= 12; length++) {
+        uint16_t *plainly = tables_room(length), *remembering = tables_room(length);
+        uint32_t *memory = room(4);
+        EXPECT(answers(nahui_plain(probe, 4, stream, 6, plainly, length, NULL, 0), 2, 0, 2, 8));
+        EXPECT(answers(nahui_remember(probe, 4, stream, 6, remembering, length, memory, 4, NULL, 0), 2, 0, 2, 6));
+        EXPECT(tables_hold_just(plainly, length, abab_pairs, 8));
+        EXPECT(tables_hold_just(remembering, length, abab_pairs, 8));
+        EXPECT(zeros_in_front(memory, 4, 4));
+    }
 }
 
 static void short_position_rooms(void)
 {
     const uint32_t found[] = {0};
-    uint32_t *suffix = room(4), *shift = room(4), *memory = room(4), *positions = room(1);
+    uint16_t *tables = tables_room(8);
+    uint32_t *memory = room(4), *positions = room(1);
     const uint8_t *probe = bytes("abab", 4), *stream = bytes("ababab", 6);
-    EXPECT(answers(nahui_plain(probe, 4, stream, 6, suffix, 4, shift, 4, positions, 1), 2, 1, 2, 8));
+    EXPECT(answers(nahui_plain(probe, 4, stream, 6, tables, 8, positions, 1), 2, 1, 2, 8));
     EXPECT(holds_just(positions, 1, found, 1));
-    EXPECT(answers(nahui_plain(probe, 4, stream, 6, suffix, 4, shift, 4, NULL, 0), 2, 0, 2, 8));
-    EXPECT(answers(nahui_remember(probe, 4, stream, 6, suffix, 4, shift, 4, memory, 4, NULL, 0), 2, 0, 2, 6));
+    EXPECT(answers(nahui_plain(probe, 4, stream, 6, tables, 8, NULL, 0), 2, 0, 2, 8));
+    EXPECT(answers(nahui_remember(probe, 4, stream, 6, tables, 8, memory, 4, NULL, 0), 2, 0, 2, 6));
 }
 
 static void empty_streams(void)
 {
-    uint32_t *suffix = room(4), *shift = room(4), *memory = room(4);
+    uint16_t *plainly = tables_room(8), *remembering = tables_room(9);
+    uint32_t *memory = room(4);
     const uint8_t *probe = bytes("abab", 4);
-    EXPECT(answers(nahui_plain(probe, 4, NULL, 0, suffix, 4, shift, 4, NULL, 0), 0, 0, 0, 0));
-    EXPECT(answers(nahui_remember(probe, 4, NULL, 0, suffix, 4, shift, 4, memory, 4, NULL, 0), 0, 0, 0, 0));
-    EXPECT(holds_just(suffix, 4, abab_suffix, 4));
-    EXPECT(holds_just(shift, 4, abab_shift, 4));
+    EXPECT(answers(nahui_plain(probe, 4, NULL, 0, plainly, 8, NULL, 0), 0, 0, 0, 0));
+    EXPECT(answers(nahui_remember(probe, 4, NULL, 0, remembering, 9, memory, 4, NULL, 0), 0, 0, 0, 0));
+    EXPECT(tables_hold_just(plainly, 8, abab_pairs, 8));
+    EXPECT(tables_hold_just(remembering, 9, abab_pairs, 8));
     EXPECT(zeros_in_front(memory, 4, 4));
 }
 
 static void empty_probes(void)
 {
-    EXPECT(refuses(nahui_plain(NULL, 0, NULL, 0, NULL, 0, NULL, 0, NULL, 0), 1));
-    EXPECT(refuses(nahui_remember(NULL, 0, NULL, 0, NULL, 0, NULL, 0, NULL, 0, NULL, 0), 1));
+    EXPECT(refuses(nahui_plain(NULL, 0, NULL, 0, NULL, 0, NULL, 0), 1));
+    EXPECT(refuses(nahui_remember(NULL, 0, NULL, 0, NULL, 0, NULL, 0, NULL, 0), 1));
 }
 
 static void short_work_rooms(void)
 {
-    uint32_t *suffix = room(4), *shift = room(4), *memory = room(4), *positions = room(2);
+    uint16_t *tables = tables_room(8);
+    uint32_t *memory = room(4), *positions = room(2);
     const uint8_t *probe = bytes("abab", 4), *stream = bytes("ababab", 6);
-    EXPECT(refuses(nahui_plain(probe, 4, stream, 6, suffix, 3, shift, 4, positions, 2), 4));
-    EXPECT(refuses(nahui_plain(probe, 4, stream, 6, suffix, 4, shift, 3, positions, 2), 4));
-    EXPECT(refuses(nahui_remember(probe, 4, stream, 6, suffix, 4, shift, 4, memory, 3, positions, 2), 4));
-    EXPECT(refuses(nahui_remember(probe, 4, stream, 6, suffix, 4, shift, 4, NULL, 0, positions, 2), 4));
-    EXPECT(untouched(suffix, 4) && untouched(shift, 4) && untouched(memory, 4) && untouched(positions, 2));
+    for (size_t n = 0; n <= 6; n += 3) {
+        for (size_t length = 0; length < 8; length++) {
+            EXPECT(refuses(nahui_plain(probe, 4, stream, n, tables, length, positions, 2), 4));
+            EXPECT(refuses(nahui_remember(probe, 4, stream, n, tables, length, memory, 4, positions, 2), 4));
+            EXPECT(refuses(nahui_remember(probe, 4, stream, n, tables, length, memory, 3, positions, 2), 4));
+        }
+        EXPECT(refuses(nahui_plain(probe, 4, stream, n, NULL, 0, positions, 2), 4));
+        EXPECT(refuses(nahui_remember(probe, 4, stream, n, tables, 8, memory, 3, positions, 2), 4));
+        EXPECT(refuses(nahui_remember(probe, 4, stream, n, tables, 8, NULL, 0, positions, 2), 4));
+    }
+    EXPECT(tables_untouched(tables, 8) && untouched(memory, 4) && untouched(positions, 2));
 }
 
 /* Writes every position of the probe, found by a look at each, and answers their number. */
@@ -101,12 +122,15 @@ static void search_both_ways(const uint8_t *probe, size_t m, const uint8_t *stre
     uint32_t found[64];
     size_t count = look_everywhere(probe, m, stream, n, found);
     const uint8_t *x = bytes(probe, m), *y = bytes(stream, n);
-    uint32_t *suffix = room(m), *shift = room(m), *memory = room(m);
-    uint32_t *plainly = room(count), *remembering = room(count);
-    EXPECT(nahui_plain(x, m, y, n, suffix, m, shift, m, plainly, count).occurrences == count);
-    EXPECT(nahui_remember(x, m, y, n, suffix, m, shift, m, memory, m, remembering, count).occurrences == count);
+    uint16_t *pairs = tables_room(2 * m), *plain_tables = tables_room(2 * m), *other_tables = tables_room(2 * m);
+    uint32_t *memory = room(m), *plainly = room(count), *remembering = room(count);
+    EXPECT(nahui_plain(x, m, y, n, plain_tables, 2 * m, plainly, count).occurrences == count);
+    EXPECT(nahui_remember(x, m, y, n, other_tables, 2 * m, memory, m, remembering, count).occurrences == count);
     EXPECT(holds_just(plainly, count, found, count));
     EXPECT(holds_just(remembering, count, found, count));
+    EXPECT(nahui_tables(x, m, pairs, 2 * m) == 0);
+    EXPECT(tables_hold_just(plain_tables, 2 * m, pairs, 2 * m));
+    EXPECT(tables_hold_just(other_tables, 2 * m, pairs, 2 * m));
     EXPECT(zeros_in_front(memory, m, m));
     give_arrays_back();
 }
@@ -126,6 +150,7 @@ int main(void)
 {
     run("plain scan of abab in ababab", plain_scan);
     run("remembering scan of abab in ababab", remembering_scan);
+    run("longer tables rooms keep what is behind the pairs", longer_tables_rooms);
     run("short position rooms keep the total true", short_position_rooms);
     run("empty streams leave tables and four zeros", empty_streams);
     run("empty probes are refused 1", empty_probes);

@@ -134,6 +134,15 @@ uint32_t *room(size_t length)
     return numbers;
 }
 
+uint16_t *tables_room(size_t length)
+{
+    lent one = note(lend(length * sizeof(uint16_t)));
+    uint16_t *entries = (uint16_t *)(void *)((char *)one.start + one.array);
+    for (size_t k = 0; k < length; k++)
+        entries[k] = UNTOUCHED_ENTRY;
+    return entries;
+}
+
 uint8_t *byte_room(size_t length)
 {
     lent one = note(lend(length));
@@ -171,6 +180,14 @@ bool holds_just(const uint32_t *room, size_t length, const uint32_t *front, size
     return front_length <= length;
 }
 
+bool tables_hold_just(const uint16_t *room, size_t length, const uint16_t *front, size_t front_length)
+{
+    for (size_t k = 0; k < length; k++)
+        if (room[k] != (k < front_length ? front[k] : UNTOUCHED_ENTRY))
+            return false;
+    return front_length <= length;
+}
+
 bool bytes_hold_just(const uint8_t *room, size_t length, const uint8_t *front, size_t front_length)
 {
     for (size_t k = 0; k < length; k++)
@@ -184,10 +201,23 @@ bool untouched(const uint32_t *room, size_t length)
     return holds_just(room, length, NULL, 0);
 }
 
+bool tables_untouched(const uint16_t *room, size_t length)
+{
+    return tables_hold_just(room, length, NULL, 0);
+}
+
 bool zeros_in_front(const uint32_t *room, size_t length, size_t front_length)
 {
     for (size_t k = 0; k < length; k++)
         if (room[k] != (k < front_length ? 0 : UNTOUCHED))
+            return false;
+    return front_length <= length;
+}
+
+bool tables_zero_in_front(const uint16_t *room, size_t length, size_t front_length)
+{
+    for (size_t k = 0; k < length; k++)
+        if (room[k] != (k < front_length ? 0 : UNTOUCHED_ENTRY))
             return false;
     return front_length <= length;
 }

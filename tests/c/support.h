@@ -11,6 +11,9 @@
 /* What a lent room holds before the call: no number that a call writes. */
 #define UNTOUCHED 0xA5A5A5A5u
 
+/* The same for a room of both tables: no table entry. */
+#define UNTOUCHED_ENTRY 0xA5A5u
+
 /* The same for a room of bytes; the tests write no such byte. */
 #define UNTOUCHED_BYTE 0xA5u
 
@@ -33,6 +36,9 @@ int status(void);
 /* A room of untouched numbers. */
 uint32_t *room(size_t length);
 
+/* A room of untouched 16-bit numbers, for both tables. */
+uint16_t *tables_room(size_t length);
+
 /* A room of untouched bytes. */
 uint8_t *byte_room(size_t length);
 
@@ -51,14 +57,23 @@ void give_arrays_back(void);
 /* True where the room begins with the expected numbers, and all others are untouched. */
 bool holds_just(const uint32_t *room, size_t length, const uint32_t *front, size_t front_length);
 
+/* The same for a room of both tables. */
+bool tables_hold_just(const uint16_t *room, size_t length, const uint16_t *front, size_t front_length);
+
 /* The same for a room of bytes. */
 bool bytes_hold_just(const uint8_t *room, size_t length, const uint8_t *front, size_t front_length);
 
 /* True where nothing was written. */
 bool untouched(const uint32_t *room, size_t length);
 
+/* The same for a room of both tables. */
+bool tables_untouched(const uint16_t *room, size_t length);
+
 /* True where the numbers from 0 to front_length - 1 are 0, and all others are untouched. */
 bool zeros_in_front(const uint32_t *room, size_t length, size_t front_length);
+
+/* The same for a room of both tables. */
+bool tables_zero_in_front(const uint16_t *room, size_t length, size_t front_length);
 
 /* Document 01's log: replicate 3 has draws 0 to 31; 7 has 100 to 107, then 0 to 31; 9 has five draws of 0. */
 #define DOCUMENT_LOG_LENGTH 664

@@ -26,6 +26,21 @@ static void shift_of_abab(void)
     EXPECT(holds_just(longer, 7, table, 4));
 }
 
+static const uint16_t abab_pairs[] = {0, 2, 2, 2, 0, 4, 4, 1};
+
+static void pairs_of_abab(void)
+{
+    uint16_t *exact = tables_room(8);
+    uint16_t *one_more = tables_room(9);
+    uint16_t *longer = tables_room(15);
+    EXPECT(nahui_tables(bytes("abab", 4), 4, exact, 8) == 0);
+    EXPECT(tables_hold_just(exact, 8, abab_pairs, 8));
+    EXPECT(nahui_tables(bytes("abab", 4), 4, one_more, 9) == 0);
+    EXPECT(tables_hold_just(one_more, 9, abab_pairs, 8));
+    EXPECT(nahui_tables(bytes("abab", 4), 4, longer, 15) == 0);
+    EXPECT(tables_hold_just(longer, 15, abab_pairs, 8));
+}
+
 static void occurrence_of_abab(void)
 {
     nahui_occurrences answer = nahui_occurrence(bytes("abab", 4), 4);
@@ -42,6 +57,10 @@ static void empty_probes(void)
     EXPECT(nahui_suffix(NULL, 0, lent, 2) == 1);
     EXPECT(nahui_shift(NULL, 0, lent, 2) == 1);
     EXPECT(untouched(lent, 2));
+    uint16_t *pairs = tables_room(2);
+    EXPECT(nahui_tables(NULL, 0, NULL, 0) == 1);
+    EXPECT(nahui_tables(NULL, 0, pairs, 2) == 1);
+    EXPECT(tables_untouched(pairs, 2));
     nahui_occurrences answer = nahui_occurrence(NULL, 0);
     EXPECT(answer.refusal == 1);
     for (int byte = 0; byte < 256; byte++)
@@ -61,6 +80,22 @@ static void probes_of_4097_bytes(void)
     EXPECT(lent[0] == 1 && lent[4095] == 4096 && lent[4096] == UNTOUCHED);
 }
 
+static void pairs_of_4097_bytes(void)
+{
+    static const uint8_t zeros[4097];
+    const uint8_t *probe = bytes(zeros, 4097);
+    uint16_t *lent = tables_room(8194);
+    EXPECT(nahui_tables(probe, 4097, lent, 8194) == 2);
+    EXPECT(nahui_tables(probe, 4097, lent, 8193) == 2);
+    EXPECT(nahui_tables(probe, 4097, NULL, 0) == 2);
+    EXPECT(nahui_tables(probe, 4096, lent, 8191) == 4);
+    EXPECT(tables_untouched(lent, 8194));
+    EXPECT(nahui_tables(probe, 4096, lent, 8192) == 0);
+    for (uint16_t i = 0; i < 4096; i++)
+        EXPECT(lent[2 * i] == i + 1 && lent[2 * i + 1] == i + 1);
+    EXPECT(lent[8192] == UNTOUCHED_ENTRY && lent[8193] == UNTOUCHED_ENTRY);
+}
+
 static void short_rooms(void)
 {
     uint32_t *lent = room(3);
@@ -69,6 +104,17 @@ static void short_rooms(void)
     EXPECT(untouched(lent, 3));
     EXPECT(nahui_suffix(bytes("abab", 4), 4, NULL, 0) == 4);
     EXPECT(nahui_shift(bytes("abab", 4), 4, NULL, 0) == 4);
+}
+
+static void short_rooms_for_pairs(void)
+{
+    for (size_t length = 0; length < 8; length++) {
+        uint16_t *lent = tables_room(length);
+        EXPECT(nahui_tables(bytes("abab", 4), 4, lent, length) == 4);
+        EXPECT(tables_untouched(lent, length));
+        give_arrays_back();
+    }
+    EXPECT(nahui_tables(bytes("abab", 4), 4, NULL, 0) == 4);
 }
 
 /* Of equal bytes, both tables count from 1. */
@@ -87,14 +133,36 @@ static void equal_bytes_of_every_length(void)
     }
 }
 
+/* Stretches of a word with many repetitions: the pairs, taken apart, are the two tables. */
+static void pairs_beside_the_tables(void)
+{
+    const char *word = "abaababaabaababaababaabaababaabaababaababaabaababaabab";
+    for (size_t m = 1; m <= 40; m++)
+        for (size_t start = 0; start < 10; start++) {
+            const uint8_t *probe = bytes(word + start, m);
+            uint32_t *suffix = room(m), *shift = room(m);
+            uint16_t *pairs = tables_room(2 * m + 1);
+            EXPECT(nahui_suffix(probe, m, suffix, m) == 0 && nahui_shift(probe, m, shift, m) == 0);
+            EXPECT(nahui_tables(probe, m, pairs, 2 * m + 1) == 0);
+            for (size_t i = 0; i < m; i++)
+                EXPECT(pairs[2 * i] == suffix[i] && pairs[2 * i + 1] == shift[i]);
+            EXPECT(pairs[2 * m] == UNTOUCHED_ENTRY);
+            give_arrays_back();
+        }
+}
+
 int main(void)
 {
     run("suffix table of abab", suffix_of_abab);
     run("shift table of abab", shift_of_abab);
+    run("pairs of both tables of abab", pairs_of_abab);
     run("occurrence table of abab", occurrence_of_abab);
     run("empty probes are refused 1", empty_probes);
     run("probes of 4097 bytes are refused 2", probes_of_4097_bytes);
+    run("pairs of 4097 bytes are refused 2, those of 4096 need 8192 numbers", pairs_of_4097_bytes);
     run("short rooms are refused 4", short_rooms);
+    run("rooms of fewer than 2m numbers for the pairs are refused 4", short_rooms_for_pairs);
     run("equal bytes of every length up to 130", equal_bytes_of_every_length);
+    run("pairs taken apart are the two tables", pairs_beside_the_tables);
     return status();
 }

@@ -1,13 +1,16 @@
 !> Support for the Fortran tests: cases that print one line each, and the log of document 01.
 module support
-  use, intrinsic :: iso_c_binding, only: c_int8_t, c_int32_t
+  use, intrinsic :: iso_c_binding, only: c_int8_t, c_int16_t, c_int32_t
   implicit none
   private
 
-  public :: untouched, begin, expect, finish, bytes, document_log
+  public :: untouched, untouched_entry, begin, expect, finish, bytes, document_log
 
   !> What a lent room holds before the call: no number that a call writes.
   integer(c_int32_t), parameter :: untouched = -1515870811_c_int32_t
+
+  !> The same for a room of both tables: no table entry.
+  integer(c_int16_t), parameter :: untouched_entry = -23131_c_int16_t
 
   character(len=80) :: name = ''
   character(len=80) :: why = ''

@@ -13,14 +13,20 @@ pub struct Check {
     pub unprobed: u32,
 }
 
-/// The check of a log with p draws, given the lengths of the work rooms and of the result room.
-pub fn check(log: &[u8], p: u32, work_rooms: &[usize], result_room: usize) -> Result<Check, Refusal> {
+/// The check of a log with p draws, given the lengths of the tables, the memory and the result room.
+pub fn check(
+    log: &[u8],
+    p: u32,
+    tables_room: usize,
+    memory_room: usize,
+    result_room: usize,
+) -> Result<Check, Refusal> {
     let entries = log::test(log)?;
     if !(1..=MOST_DRAWS).contains(&p) {
         return Err(Refusal::plain(20));
     }
     let probe_length = probe_length(p);
-    if work_rooms.iter().any(|&room| room < probe_length) {
+    if tables_room < 2 * probe_length || memory_room < probe_length {
         return Err(Refusal::plain(4));
     }
     if result_room < numbers_needed(entries.len()) {
@@ -29,7 +35,7 @@ pub fn check(log: &[u8], p: u32, work_rooms: &[usize], result_room: usize) -> Re
     Ok(search_all(log, &entries, probe_length))
 }
 
-/// The bytes of a probe of p draws, which is also what each work room needs.
+/// The bytes of a probe of p draws. The tables room needs two numbers for each of them, the memory room one.
 pub fn probe_length(p: u32) -> usize {
     8 * p as usize
 }

@@ -7,7 +7,7 @@
 //!
 //! | Module | Documents 01 and 02 |
 //! |---|---|
-//! | [`tables`] | Tables of a probe |
+//! | [`tables`] | Tables of a probe; request Nine: both in one room |
 //! | [`scans`] | The two scans |
 //! | [`log`] | Draw log |
 //! | [`check`] | Overlap check |

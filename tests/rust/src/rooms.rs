@@ -4,6 +4,26 @@
 
 const MARGIN: usize = 4;
 
+/// A number that rooms hold.
+pub trait Number: Copy + PartialEq {
+    /// A number that no call writes; another one for each of the first 2^15 places.
+    fn canary(place: usize) -> Self;
+}
+
+impl Number for u32 {
+    /// At least 2^31, so neither a table entry nor a position nor a length.
+    fn canary(place: usize) -> u32 {
+        0x8000_0000 | (place as u32).wrapping_mul(0x0019_660D).wrapping_add(0x3C6E_F35F)
+    }
+}
+
+impl Number for u16 {
+    /// At least 2^15, so no table entry.
+    fn canary(place: usize) -> u16 {
+        0x8000 | u32::canary(place) as u16
+    }
+}
+
 /// A room to lend, of 32-bit numbers where nothing else is said.
 #[derive(Clone)]
 pub struct Room<T = u32> {
@@ -13,15 +33,15 @@ pub struct Room<T = u32> {
     before: Vec<T>,
 }
 
-impl Room {
+impl<T: Number> Room<T> {
     /// A room of this length, filled with large numbers that are all different.
-    pub fn new(length: usize) -> Room {
-        Room::made((0..length + 2 * MARGIN).map(canary).collect())
+    pub fn new(length: usize) -> Room<T> {
+        Room::made((0..length + 2 * MARGIN).map(T::canary).collect())
     }
 
     /// A room that holds these numbers.
-    pub fn holding(numbers: &[u32]) -> Room {
-        let mut array: Vec<u32> = (0..numbers.len() + 2 * MARGIN).map(canary).collect();
+    pub fn holding(numbers: &[T]) -> Room<T> {
+        let mut array: Vec<T> = (0..numbers.len() + 2 * MARGIN).map(T::canary).collect();
         array[MARGIN..MARGIN + numbers.len()].copy_from_slice(numbers);
         Room::made(array)
     }
@@ -30,8 +50,9 @@ impl Room {
 impl Room<u8> {
     /// Two rooms of this length that hold different bytes at every place.
     pub fn pair_of_bytes(length: usize) -> [Room<u8>; 2] {
-        let bytes =
-            |flip: u32| (0..length + 2 * MARGIN).map(|place| ((canary(place) ^ flip) >> 8) as u8).collect();
+        let bytes = |flip: u32| {
+            (0..length + 2 * MARGIN).map(|place| ((u32::canary(place) ^ flip) >> 8) as u8).collect()
+        };
         [Room::made(bytes(0)), Room::made(bytes(u32::MAX))]
     }
 }
@@ -63,9 +84,4 @@ impl<T: Copy + PartialEq> Room<T> {
     pub fn is_untouched(&self) -> bool {
         self.array == self.before
     }
-}
-
-/// A number of at least 2^31, so neither a table entry nor a position nor a length.
-fn canary(place: usize) -> u32 {
-    0x8000_0000 | (place as u32).wrapping_mul(0x0019_660D).wrapping_add(0x3C6E_F35F)
 }

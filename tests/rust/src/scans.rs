@@ -5,15 +5,15 @@ use crate::tables::{self, LONGEST_PROBE};
 /// The most bytes that a stream may have.
 pub const LONGEST_STREAM: usize = 16_777_216;
 
-/// The refusal of a search, given the lengths of its work rooms, if there is one.
-pub fn refusal(m: usize, n: usize, work_rooms: &[usize]) -> Option<u32> {
+/// The refusal of a search, given the lengths of its work rooms, if there is one. The plain scan has no memory room.
+pub fn refusal(m: usize, n: usize, tables_room: usize, memory_room: Option<usize>) -> Option<u32> {
     if m == 0 {
         Some(1)
     } else if m > LONGEST_PROBE {
         Some(2)
     } else if n > LONGEST_STREAM {
         Some(3)
-    } else if work_rooms.iter().any(|&room| room < m) {
+    } else if tables_room < 2 * m || matches!(memory_room, Some(room) if room < m) {
         Some(4)
     } else {
         None
@@ -57,6 +57,11 @@ impl Probe {
             shift: tables::shift_table(x),
             occurrence: tables::occurrence_table(x),
         }
+    }
+
+    /// The suffix and the shift table as a search leaves them.
+    pub fn pairs(&self) -> Vec<u16> {
+        tables::pairs(&self.suffix, &self.shift)
     }
 
     /// The number of its bytes, m.

@@ -3,13 +3,14 @@
 /// The most bytes that a probe may have.
 pub const LONGEST_PROBE: usize = 4_096;
 
-/// The refusal of a table call for a probe of m bytes and a room, if there is one.
-pub fn refusal(m: usize, room: usize) -> Option<u32> {
+/// The refusal of a table call for a probe of m bytes and a room that needs this many numbers for each of them,
+/// if there is one.
+pub fn refusal(m: usize, room: usize, per_byte: usize) -> Option<u32> {
     if m == 0 {
         Some(1)
     } else if m > LONGEST_PROBE {
         Some(2)
-    } else if room < m {
+    } else if room < per_byte * m {
         Some(4)
     } else {
         None
@@ -25,6 +26,17 @@ pub fn suffix_table(x: &[u8]) -> Vec<u32> {
 pub fn shift_table(x: &[u8]) -> Vec<u32> {
     let smallest = |i| (1..=x.len()).find(|&s| shift_fits(x, i, s)).expect("s = m always fits");
     (0..x.len()).map(|i| number(smallest(i))).collect()
+}
+
+/// Both tables in pairs: for each index the suffix entry, then the shift entry.
+pub fn pairs(suffix: &[u32], shift: &[u32]) -> Vec<u16> {
+    suffix.iter().zip(shift).flat_map(|(&a, &b)| [a, b]).map(entry_of_16_bits).collect()
+}
+
+/// The suffix table and the shift table that these pairs stand for.
+pub fn taken_apart(pairs: &[u16]) -> (Vec<u32>, Vec<u32>) {
+    let entries = |first: usize| pairs.iter().skip(first).step_by(2).copied().map(u32::from).collect();
+    (entries(0), entries(1))
 }
 
 /// Entry a: the smallest k from 1 to m − 1 with x[m−1−k] = a; m where there is none.
@@ -56,6 +68,10 @@ fn shift_fits(x: &[u8], i: usize, s: usize) -> bool {
     } else {
         x.ends_with(&x[..m - s])
     }
+}
+
+fn entry_of_16_bits(entry: u32) -> u16 {
+    entry.try_into().expect("an entry is at most 4,096")
 }
 
 fn number(count: usize) -> u32 {

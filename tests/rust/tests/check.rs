@@ -1,5 +1,5 @@
 //! The overlap check, compared with a search at every offset of every block: its answer, every entry of its
-//! four rooms, and what it refuses.
+//! three rooms, and what it refuses.
 
 use nahuitepol::Checked;
 use nahuitepol_tests::check::{check, numbers_needed, probe_length, MOST_DRAWS};
@@ -10,48 +10,47 @@ use nahuitepol_tests::words::{fibonacci, Generator};
 
 /// The rooms that the check takes.
 struct Rooms {
-    suffix: Room,
-    shift: Room,
+    tables: Room<u16>,
     memory: Room,
     result: Room,
 }
 
-/// The lengths of suffix, shift and memory room.
-type Work = [usize; 3];
+/// The lengths of the work rooms.
+#[derive(Debug, Clone, Copy)]
+struct Work {
+    tables: usize,
+    memory: usize,
+}
+
+const NO_ROOMS: Work = Work { tables: 0, memory: 0 };
 
 const NO_LINES: [[u32; 4]; 0] = [];
 
+impl Work {
+    /// What probes of p draws need.
+    fn exact(p: u32) -> Work {
+        Work { tables: 2 * probe_length(p), memory: probe_length(p) }
+    }
+}
+
 impl Rooms {
     fn new(work: Work, result: usize) -> Rooms {
-        Rooms {
-            suffix: Room::new(work[0]),
-            shift: Room::new(work[1]),
-            memory: Room::new(work[2]),
-            result: Room::new(result),
-        }
+        Rooms { tables: Room::new(work.tables), memory: Room::new(work.memory), result: Room::new(result) }
     }
 
     fn check(&mut self, log: &[u8], p: u32) -> Checked {
-        let (suffix, shift, memory) = (self.suffix.lend(), self.shift.lend(), self.memory.lend());
-        nahuitepol::check(log, p, suffix, shift, memory, self.result.lend())
-    }
-
-    fn work(&self) -> [(&str, &Room); 3] {
-        [("suffix", &self.suffix), ("shift", &self.shift), ("memory", &self.memory)]
+        nahuitepol::check(log, p, self.tables.lend(), self.memory.lend(), self.result.lend())
     }
 
     fn assert_after_success(&self, p: u32, result: &[u32], context: &str) {
-        let zeros = vec![0; probe_length(p)];
-        for (name, room) in self.work() {
-            assert!(room.holds_just(&zeros), "{name} room: {context}");
-        }
+        assert!(self.tables.holds_just(&vec![0; 16 * p as usize]), "tables room: {context}");
+        assert!(self.memory.holds_just(&vec![0; 8 * p as usize]), "memory room: {context}");
         assert!(self.result.holds_just(result), "result room: {context}, not {result:?}");
     }
 
     fn assert_untouched(&self, context: &str) {
-        for (name, room) in self.work() {
-            assert!(room.is_untouched(), "{name} room: {context}");
-        }
+        assert!(self.tables.is_untouched(), "tables room: {context}");
+        assert!(self.memory.is_untouched(), "memory room: {context}");
         assert!(self.result.is_untouched(), "result room: {context}");
     }
 }
@@ -61,7 +60,7 @@ fn compare_with(log: &[u8], p: u32, work: Work, result: usize) -> Checked {
     let mut rooms = Rooms::new(work, result);
     let answer = rooms.check(log, p);
     let context = format!("log of {} bytes, p {p}, rooms {work:?} and {result}", log.len());
-    match check(log, p, &work, result) {
+    match check(log, p, work.tables, work.memory, result) {
         Ok(found) => {
             let pairs = (found.result.len() / 4) as u32;
             let expected = Checked { refusal: 0, entry: 0, pairs, unprobed: found.unprobed };
@@ -78,16 +77,15 @@ fn compare_with(log: &[u8], p: u32, work: Work, result: usize) -> Checked {
 
 /// One check with rooms that are longer than needed.
 fn compare(parts: &Parts, p: u32) -> Checked {
-    let work = probe_length(p);
+    let Work { tables, memory } = Work::exact(p);
     let result = numbers_needed(parts.entries.len());
-    compare_with(&parts.bytes(), p, [work, work + 1, work + 2], result + 3)
+    compare_with(&parts.bytes(), p, Work { tables: tables + 1, memory: memory + 2 }, result + 3)
 }
 
 /// The lines of a check of these blocks, whose ids are 1, 2, ..
 fn lines(blocks: &[&[u8]], p: u32) -> Vec<[u32; 4]> {
     let parts = numbered(blocks);
-    let work = [probe_length(p); 3];
-    let mut rooms = Rooms::new(work, numbers_needed(blocks.len()));
+    let mut rooms = Rooms::new(Work::exact(p), numbers_needed(blocks.len()));
     let answer = rooms.check(&parts.bytes(), p);
     assert_eq!(answer.refusal, 0);
     let numbers = &rooms.result.lend()[..4 * answer.pairs as usize];
@@ -114,11 +112,11 @@ fn random_parts(generator: &mut Generator, most_replicates: usize, most_draws: u
 
 #[test]
 fn the_log_of_document_01_has_the_pair_3_7_64_1_and_9_unprobed() {
-    let mut rooms = Rooms::new([256; 3], 24);
+    let mut rooms = Rooms::new(Work { tables: 512, memory: 256 }, 24);
     let answer = rooms.check(&document_log(), 32);
     assert_eq!(answer, Checked { refusal: 0, entry: 0, pairs: 1, unprobed: 1 });
     rooms.assert_after_success(32, &[3, 7, 64, 1], "document 01");
-    compare_with(&document_log(), 32, [256; 3], 24);
+    compare_with(&document_log(), 32, Work::exact(32), 24);
 }
 
 #[test]
@@ -183,7 +181,7 @@ fn an_owner_with_exactly_p_draws_is_probed_and_one_with_fewer_is_not() {
 fn one_replicate_needs_no_result_room_and_has_no_pair() {
     for length in [0, 1, 5] {
         let log = numbered(&[&draws((0..length).map(|_| 0))]).bytes();
-        let answer = compare_with(&log, 2, [16; 3], 0);
+        let answer = compare_with(&log, 2, Work::exact(2), 0);
         let unprobed = u32::from(length < 2);
         assert_eq!(answer, Checked { refusal: 0, entry: 0, pairs: 0, unprobed });
     }
@@ -196,8 +194,8 @@ fn sixty_four_equal_replicates_give_4032_pairs() {
     assert_eq!(compare(&parts, 10), Checked { refusal: 0, entry: 0, pairs: 4_032, unprobed: 0 });
     assert_eq!(compare(&parts, 1).pairs, 4_032);
     let log = parts.bytes();
-    compare_with(&log, 10, [80; 3], 16_128);
-    expect_refusal(&log, 10, [80; 3], 16_127, 5, 0);
+    compare_with(&log, 10, Work::exact(10), 16_128);
+    expect_refusal(&log, 10, Work::exact(10), 16_127, 5, 0);
 }
 
 #[test]
@@ -255,35 +253,44 @@ fn larger_logs_made_at_random() {
 fn p_outside_1_to_512_is_refused_20() {
     let log = document_log();
     for p in [0, 513, 514, 1_024, 1 << 16, 1 << 29, (1 << 29) + 1, (1 << 29) + 32, 1 << 31, u32::MAX] {
-        expect_refusal(&log, p, [5_000; 3], 24, 20, 0);
-        expect_refusal(&log, p, [0; 3], 0, 20, 0);
+        expect_refusal(&log, p, Work { tables: 10_000, memory: 5_000 }, 24, 20, 0);
+        expect_refusal(&log, p, NO_ROOMS, 0, 20, 0);
     }
-    assert_eq!(compare_with(&log, 512, [4_096; 3], 24).unprobed, 3);
-    assert_eq!(compare_with(&log, 1, [8; 3], 24).unprobed, 0);
+    assert_eq!(compare_with(&log, 512, Work { tables: 8_192, memory: 4_096 }, 24).unprobed, 3);
+    assert_eq!(compare_with(&log, 1, Work { tables: 16, memory: 8 }, 24).unprobed, 0);
 }
 
 #[test]
 fn each_work_room_short_by_one_is_refused_4_and_all_rooms_left_alone() {
     for p in [1, 2, 32, 512] {
-        let need = probe_length(p);
-        for short in 0..3 {
-            let mut work = [need; 3];
-            work[short] = need - 1;
-            expect_refusal(&document_log(), p, work, 24, 4, 0);
-            work[short] = 0;
-            expect_refusal(&document_log(), p, work, 24, 4, 0);
+        let exact = Work::exact(p);
+        for tables in [exact.tables - 1, exact.tables / 2, 0] {
+            expect_refusal(&document_log(), p, Work { tables, ..exact }, 24, 4, 0);
         }
+        for memory in [exact.memory - 1, exact.memory / 2, 0] {
+            expect_refusal(&document_log(), p, Work { memory, ..exact }, 24, 4, 0);
+        }
+        expect_refusal(
+            &document_log(),
+            p,
+            Work { tables: exact.tables - 1, memory: exact.memory - 1 },
+            24,
+            4,
+            0,
+        );
+        expect_refusal(&document_log(), p, NO_ROOMS, 24, 4, 0);
     }
 }
 
 #[test]
 fn a_short_work_room_is_refused_4_even_if_no_owner_is_probed() {
     let unprobed = numbered(&[&draws([1]), &[], &draws([2])]).bytes();
-    expect_refusal(&unprobed, 32, [255, 256, 256], 24, 4, 0);
-    expect_refusal(&unprobed, 32, [256, 256, 8], 24, 4, 0);
+    expect_refusal(&unprobed, 32, Work { tables: 511, memory: 256 }, 24, 4, 0);
+    expect_refusal(&unprobed, 32, Work { tables: 512, memory: 8 }, 24, 4, 0);
     let alone = numbered(&[&[]]).bytes();
-    expect_refusal(&alone, 512, [4_096, 4_095, 4_096], 0, 4, 0);
-    assert_eq!(compare_with(&alone, 512, [4_096; 3], 0).unprobed, 1);
+    expect_refusal(&alone, 512, Work { tables: 8_191, memory: 4_096 }, 0, 4, 0);
+    expect_refusal(&alone, 512, Work { tables: 8_192, memory: 4_095 }, 0, 4, 0);
+    assert_eq!(compare_with(&alone, 512, Work::exact(512), 0).unprobed, 1);
 }
 
 #[test]
@@ -301,10 +308,10 @@ fn a_result_room_below_4_c_times_c_minus_1_is_refused_5() {
     for count in 2..=64usize {
         let log = numbered(&vec![&[][..]; count]).bytes();
         let need = 4 * count * (count - 1);
-        expect_refusal(&log, 1, [8; 3], need - 1, 5, 0);
-        expect_refusal(&log, 1, [8; 3], 0, 5, 0);
-        assert_eq!(compare_with(&log, 1, [8; 3], need).refusal, 0);
-        assert_eq!(compare_with(&log, 1, [8; 3], need + 1).refusal, 0);
+        expect_refusal(&log, 1, Work::exact(1), need - 1, 5, 0);
+        expect_refusal(&log, 1, Work::exact(1), 0, 5, 0);
+        assert_eq!(compare_with(&log, 1, Work::exact(1), need).refusal, 0);
+        assert_eq!(compare_with(&log, 1, Work::exact(1), need + 1).refusal, 0);
     }
 }
 
@@ -312,22 +319,25 @@ fn a_result_room_below_4_c_times_c_minus_1_is_refused_5() {
 fn refusals_come_in_the_order_log_20_4_5() {
     let sound = document_log();
     let wrong_mark = Parts { mark: *b"WARD", ..numbered(&[&[], &[]]) }.bytes();
-    expect_refusal(&wrong_mark, 0, [0; 3], 0, 12, 0);
-    expect_refusal(&wrong_mark, 32, [256; 3], 24, 12, 0);
-    expect_refusal(&sound, 0, [0; 3], 0, 20, 0);
-    expect_refusal(&sound, 513, [256; 3], 23, 20, 0);
-    expect_refusal(&sound, 32, [255; 3], 23, 4, 0);
-    expect_refusal(&sound, 32, [256; 3], 23, 5, 0);
+    expect_refusal(&wrong_mark, 0, NO_ROOMS, 0, 12, 0);
+    expect_refusal(&wrong_mark, 32, Work::exact(32), 24, 12, 0);
+    expect_refusal(&sound, 0, NO_ROOMS, 0, 20, 0);
+    expect_refusal(&sound, 513, Work::exact(32), 23, 20, 0);
+    expect_refusal(&sound, 32, Work { tables: 511, memory: 255 }, 23, 4, 0);
+    expect_refusal(&sound, 32, Work { tables: 511, memory: 256 }, 23, 4, 0);
+    expect_refusal(&sound, 32, Work { tables: 512, memory: 255 }, 23, 4, 0);
+    expect_refusal(&sound, 32, Work::exact(32), 23, 5, 0);
 }
 
 #[test]
 fn every_choice_of_short_exact_and_longer_rooms() {
     let log = document_log();
     for p in [0, 2, 513] {
-        for code in 0..27 {
-            let work = [code % 3, code / 3 % 3, code / 9].map(|more| 15 + more);
-            for result in [0, 23, 24, 25] {
-                compare_with(&log, p, work, result);
+        for tables in [0, 15, 16, 31, 32, 33, 35] {
+            for memory in [0, 15, 16, 17] {
+                for result in [0, 23, 24, 25] {
+                    compare_with(&log, p, Work { tables, memory }, result);
+                }
             }
         }
     }
@@ -336,8 +346,8 @@ fn every_choice_of_short_exact_and_longer_rooms() {
 #[test]
 fn refused_logs_carry_their_number_and_entry() {
     for (log, refusal) in refused_logs() {
-        expect_refusal(&log, 1, [8; 3], 24, refusal.number, refusal.entry);
-        expect_refusal(&log, 0, [0; 3], 0, refusal.number, refusal.entry);
+        expect_refusal(&log, 1, Work::exact(1), 24, refusal.number, refusal.entry);
+        expect_refusal(&log, 0, NO_ROOMS, 0, refusal.number, refusal.entry);
     }
 }
 
@@ -347,18 +357,16 @@ fn what_the_rooms_held_before_does_not_matter() {
     for _ in 0..3_000 {
         let parts = random_parts(&mut generator, 4, 6);
         let need = numbers_needed(parts.entries.len());
-        let mut left_over = |length: usize| {
-            let numbers: Vec<u32> = (0..length).map(|_| generator.below(17) as u32).collect();
-            Room::holding(&numbers)
-        };
+        let mut left_over =
+            |length: usize| -> Vec<u16> { (0..length).map(|_| generator.below(17) as u16).collect() };
+        let wide = |numbers: Vec<u16>| -> Vec<u32> { numbers.into_iter().map(u32::from).collect() };
         let mut rooms = Rooms {
-            suffix: left_over(16),
-            shift: left_over(17),
-            memory: left_over(18),
-            result: left_over(need),
+            tables: Room::holding(&left_over(33)),
+            memory: Room::holding(&wide(left_over(18))),
+            result: Room::holding(&wide(left_over(need))),
         };
         let answer = rooms.check(&parts.bytes(), 2);
-        let found = check(&parts.bytes(), 2, &[16, 17, 18], need).expect("a sound log");
+        let found = check(&parts.bytes(), 2, 33, 18, need).expect("a sound log");
         assert_eq!((answer.refusal, answer.unprobed), (0, found.unprobed));
         rooms.assert_after_success(2, &found.result, "rooms in use before");
     }
@@ -370,7 +378,7 @@ fn the_log_stays_as_it_was() {
     for _ in 0..500 {
         let log = random_parts(&mut generator, 5, 6).bytes();
         let before = log.clone();
-        let answer = Rooms::new([16; 3], numbers_needed(5)).check(&log, 2);
+        let answer = Rooms::new(Work::exact(2), numbers_needed(5)).check(&log, 2);
         assert_eq!(answer.refusal, 0);
         assert!(log == before, "the log was written to");
     }

@@ -23,55 +23,72 @@ use Scanner::{Plain, Remembering};
 const BOTH: [Scanner; 2] = [Plain, Remembering];
 
 impl Scanner {
-    /// Of the lengths of suffix, shift and memory room, those that the scan takes.
-    fn rooms_taken(self, work: &[usize; 3]) -> &[usize] {
+    /// The refusal that is due with work rooms of these lengths.
+    fn refusal(self, m: usize, n: usize, work: Work) -> Option<u32> {
         match self {
-            Plain => &work[..2],
-            Remembering => work,
+            Plain => scans::refusal(m, n, work.tables, None),
+            Remembering => scans::refusal(m, n, work.tables, Some(work.memory)),
         }
+    }
+}
+
+/// The lengths of the work rooms.
+#[derive(Debug, Clone, Copy)]
+struct Work {
+    tables: usize,
+    memory: usize,
+}
+
+impl Work {
+    /// What a probe of m bytes needs.
+    fn exact(m: usize) -> Work {
+        Work { tables: 2 * m, memory: m }
+    }
+
+    fn longer(self, tables: usize, memory: usize) -> Work {
+        Work { tables: self.tables + tables, memory: self.memory + memory }
+    }
+
+    /// Both rooms shorter, or empty.
+    fn shorter(self, tables: usize, memory: usize) -> Work {
+        Work { tables: self.tables.saturating_sub(tables), memory: self.memory.saturating_sub(memory) }
     }
 }
 
 /// The rooms of a search. The plain scan takes no memory room, and must leave it alone.
 #[derive(Clone)]
 struct Rooms {
-    suffix: Room,
-    shift: Room,
+    tables: Room<u16>,
     memory: Room,
     positions: Room,
 }
 
 impl Rooms {
-    fn new(work: [usize; 3], positions: usize) -> Rooms {
+    fn new(work: Work, positions: usize) -> Rooms {
         Rooms {
-            suffix: Room::new(work[0]),
-            shift: Room::new(work[1]),
-            memory: Room::new(work[2]),
+            tables: Room::new(work.tables),
+            memory: Room::new(work.memory),
             positions: Room::new(positions),
         }
     }
 
     fn search(&mut self, scanner: Scanner, x: &[u8], y: &[u8]) -> Searched {
-        let (suffix, shift) = (self.suffix.lend(), self.shift.lend());
+        let (tables, positions) = (self.tables.lend(), self.positions.lend());
         match scanner {
-            Plain => nahuitepol::plain(x, y, suffix, shift, self.positions.lend()),
-            Remembering => {
-                nahuitepol::remember(x, y, suffix, shift, self.memory.lend(), self.positions.lend())
-            }
+            Plain => nahuitepol::plain(x, y, tables, positions),
+            Remembering => nahuitepol::remember(x, y, tables, self.memory.lend(), positions),
         }
     }
 
     fn assert_untouched(&self, case: Case) {
-        assert!(self.suffix.is_untouched(), "suffix room: {case}");
-        assert!(self.shift.is_untouched(), "shift room: {case}");
+        assert!(self.tables.is_untouched(), "tables room: {case}");
         assert!(self.memory.is_untouched(), "memory room: {case}");
         assert!(self.positions.is_untouched(), "position room: {case}");
     }
 
     fn assert_after_success(&self, case: Case, probe: &Probe, written: &[u32]) {
         let zeros = vec![0; probe.length()];
-        assert!(self.suffix.holds_just(&probe.suffix), "suffix room: {case}");
-        assert!(self.shift.holds_just(&probe.shift), "shift room: {case}");
+        assert!(self.tables.holds_just(&probe.pairs()), "tables room: {case}");
         match case.scanner {
             Plain => assert!(self.memory.is_untouched(), "memory room: {case}"),
             Remembering => assert!(self.memory.holds_just(&zeros), "memory room: {case}"),
@@ -130,7 +147,7 @@ fn compare_in(mut rooms: Rooms, scanner: Scanner, probe: &Probe, y: &[u8]) -> Se
 
 /// Both searches, each with work rooms that are longer than needed by `slack`.
 fn compare(probe: &Probe, y: &[u8], slack: usize, position_room: usize) {
-    let rooms = Rooms::new([probe.length() + slack; 3], position_room);
+    let rooms = Rooms::new(Work::exact(probe.length()).longer(slack, slack), position_room);
     let plain = compare_in(rooms.clone(), Plain, probe, y);
     let remembering = compare_in(rooms, Remembering, probe, y);
     assert_demand_3(probe.length(), y.len(), plain, remembering);
@@ -150,7 +167,7 @@ fn assert_demand_3(m: usize, n: usize, plain: Searched, remembering: Searched) {
     }
 }
 
-fn expect_refusal(scanner: Scanner, x: &[u8], y: &[u8], work: [usize; 3], number: u32) {
+fn expect_refusal(scanner: Scanner, x: &[u8], y: &[u8], work: Work, number: u32) {
     let mut rooms = Rooms::new(work, 5);
     let answer = rooms.search(scanner, x, y);
     let case = Case { scanner, x, y };
@@ -161,7 +178,7 @@ fn expect_refusal(scanner: Scanner, x: &[u8], y: &[u8], work: [usize; 3], number
 /// A row: probe, stream; positions, windows, plain and remembering comparisons.
 fn figure(x: &[u8], y: &[u8], found: &[u32], windows: u64, plain: u64, remembering: u64) {
     for (scanner, comparisons) in [(Plain, plain), (Remembering, remembering)] {
-        let mut rooms = Rooms::new([x.len(); 3], found.len() + 1);
+        let mut rooms = Rooms::new(Work::exact(x.len()), found.len() + 1);
         let answer = rooms.search(scanner, x, y);
         let occurrences = found.len() as u64;
         let expected =
@@ -343,7 +360,7 @@ fn a_stream_shorter_than_the_probe_leaves_tables_zeros_and_four_zero_numbers() {
         let probe = Probe::new(&generator.word(2, m));
         for n in [0, m / 2, m - 1] {
             for scanner in BOTH {
-                let rooms = Rooms::new([m + 1; 3], 3);
+                let rooms = Rooms::new(Work::exact(m).longer(1, 1), 3);
                 let answer = compare_in(rooms, scanner, &probe, &probe.x[..n]);
                 assert_eq!(answer, ZEROS, "m {m}, n {n}");
             }
@@ -357,7 +374,7 @@ fn a_stream_as_long_as_the_probe_has_one_window() {
     for m in [1, 2, 3, 17, 256, 4_096] {
         let probe = Probe::new(&generator.word(2, m));
         for scanner in BOTH {
-            let answer = compare_in(Rooms::new([m; 3], 1), scanner, &probe, &probe.x);
+            let answer = compare_in(Rooms::new(Work::exact(m), 1), scanner, &probe, &probe.x);
             assert_eq!((answer.occurrences, answer.windows, answer.comparisons), (1, 1, m as u64));
         }
     }
@@ -395,15 +412,14 @@ fn what_the_rooms_held_before_does_not_matter() {
         let n = generator.between(m, 60);
         let probe = Probe::new(&generator.word(2, m));
         let y = generator.word(2, n);
-        let mut left_over = |most: usize| {
-            let numbers: Vec<u32> = (0..m + 2).map(|_| generator.below(most + 1) as u32).collect();
-            Room::holding(&numbers)
+        let mut left_over = |length: usize, most: usize| -> Vec<u16> {
+            (0..length).map(|_| generator.below(most + 1) as u16).collect()
         };
+        let wide = |numbers: Vec<u16>| -> Vec<u32> { numbers.into_iter().map(u32::from).collect() };
         let rooms = Rooms {
-            suffix: left_over(m),
-            shift: left_over(m),
-            memory: left_over(m),
-            positions: left_over(n),
+            tables: Room::holding(&left_over(2 * m + 2, m)),
+            memory: Room::holding(&wide(left_over(m + 2, m))),
+            positions: Room::holding(&wide(left_over(m + 2, n))),
         };
         for scanner in BOTH {
             compare_in(rooms.clone(), scanner, &probe, &y);
@@ -414,12 +430,12 @@ fn what_the_rooms_held_before_does_not_matter() {
 #[test]
 fn one_search_after_another_in_the_same_rooms() {
     let mut generator = Generator::new(19);
-    let (mut suffix, mut shift, mut memory, mut found) = ([0; 12], [0; 12], [0; 12], [0; 64]);
+    let (mut tables, mut memory, mut found) = ([0; 24], [0; 12], [0; 64]);
     for _ in 0..20_000 {
         let m = generator.between(1, 12);
         let n = generator.between(0, 60);
         let (x, y) = (generator.word(2, m), generator.word(2, n));
-        let answer = nahuitepol::remember(&x, &y, &mut suffix, &mut shift, &mut memory, &mut found);
+        let answer = nahuitepol::remember(&x, &y, &mut tables, &mut memory, &mut found);
         let scan = Probe::new(&x).remember(&y);
         assert_eq!(answer, expected_answer(&scan, 64), "{}", Case { scanner: Remembering, x: &x, y: &y });
         assert_eq!(found[..scan.positions.len()], scan.positions);
@@ -433,7 +449,7 @@ fn the_inputs_stay_as_they_were() {
         let (x, y) = (generator.word(2, 5), generator.word(2, 40));
         let before = (x.clone(), y.clone());
         for scanner in BOTH {
-            assert_eq!(Rooms::new([5; 3], 40).search(scanner, &x, &y).refusal, 0);
+            assert_eq!(Rooms::new(Work::exact(5), 40).search(scanner, &x, &y).refusal, 0);
             assert!((&x, &y) == (&before.0, &before.1), "the {scanner:?} scan wrote to an input");
         }
     }
@@ -449,7 +465,7 @@ fn demand_3_on_the_answers_alone() {
         let period = generator.pick(&[7, 60, 500, 30_000]);
         let y = repeated(&generator.word(letters, period), n);
         let x = if n >= m { generator.stretch(&y, m) } else { generator.word(letters, m) };
-        let mut plain_rooms = Rooms::new([m; 3], n);
+        let mut plain_rooms = Rooms::new(Work::exact(m), n);
         let mut remembering_rooms = plain_rooms.clone();
         let plain = plain_rooms.search(Plain, &x, &y);
         let remembering = remembering_rooms.search(Remembering, &x, &y);
@@ -484,7 +500,7 @@ fn equal_bytes_at_the_greatest_length_pass_2_to_the_32_comparisons() {
     let windows = (LONGEST_STREAM - m + 1) as u64;
     assert!(windows * m as u64 > 1 << 32);
     for (scanner, comparisons) in [(Plain, windows * m as u64), (Remembering, LONGEST_STREAM as u64)] {
-        let mut rooms = Rooms::new([m; 3], 3);
+        let mut rooms = Rooms::new(Work::exact(m), 3);
         let answer = rooms.search(scanner, &stream[..m], &stream);
         let expected =
             Searched { refusal: 0, entry: 0, occurrences: windows, written: 3, windows, comparisons };
@@ -497,8 +513,8 @@ fn equal_bytes_at_the_greatest_length_pass_2_to_the_32_comparisons() {
 fn an_empty_probe_is_refused_1() {
     for scanner in BOTH {
         for y in [&b""[..], b"abc"] {
-            expect_refusal(scanner, b"", y, [0; 3], 1);
-            expect_refusal(scanner, b"", y, [4; 3], 1);
+            expect_refusal(scanner, b"", y, Work::exact(0), 1);
+            expect_refusal(scanner, b"", y, Work::exact(4), 1);
         }
     }
 }
@@ -508,8 +524,8 @@ fn a_probe_over_4096_bytes_is_refused_2() {
     for scanner in BOTH {
         for m in [4_097, 8_192, 70_000] {
             let x = vec![1; m];
-            expect_refusal(scanner, &x, b"", [m; 3], 2);
-            expect_refusal(scanner, &x, &x, [m - 1; 3], 2);
+            expect_refusal(scanner, &x, b"", Work::exact(m), 2);
+            expect_refusal(scanner, &x, &x, Work::exact(m).shorter(1, 1), 2);
         }
     }
 }
@@ -519,8 +535,8 @@ fn a_stream_over_16777216_bytes_is_refused_3() {
     for n in [LONGEST_STREAM + 1, LONGEST_STREAM + 4_096] {
         let y = vec![0; n];
         for scanner in BOTH {
-            expect_refusal(scanner, b"abc", &y, [3; 3], 3);
-            expect_refusal(scanner, b"abc", &y, [2; 3], 3);
+            expect_refusal(scanner, b"abc", &y, Work::exact(3), 3);
+            expect_refusal(scanner, b"abc", &y, Work::exact(3).shorter(1, 1), 3);
         }
     }
 }
@@ -530,23 +546,27 @@ fn each_work_room_short_by_one_is_refused_4_and_all_rooms_left_alone() {
     let mut generator = Generator::new(24);
     for m in [1, 2, 3, 16, 255, 4_095, 4_096] {
         let x = generator.word(2, m);
+        let exact = Work::exact(m);
         for scanner in BOTH {
             for y in [&x[..0], &x[..]] {
-                expect_refusal(scanner, &x, y, [m - 1, m, m], 4);
-                expect_refusal(scanner, &x, y, [m, m - 1, m], 4);
-                expect_refusal(scanner, &x, y, [m - 1, m + 5, m + 5], 4);
-                expect_refusal(scanner, &x, y, [0, 0, 0], 4);
+                expect_refusal(scanner, &x, y, exact.shorter(1, 0), 4);
+                expect_refusal(scanner, &x, y, exact.shorter(m, 0), 4);
+                expect_refusal(scanner, &x, y, exact.shorter(1, 0).longer(0, 5), 4);
+                expect_refusal(scanner, &x, y, exact.shorter(1, 1), 4);
+                expect_refusal(scanner, &x, y, exact.shorter(2 * m, m), 4);
             }
         }
-        expect_refusal(Remembering, &x, &x, [m, m, m - 1], 4);
-        expect_refusal(Remembering, &x, &x, [m + 5, m + 5, 0], 4);
+        for y in [&x[..0], &x[..]] {
+            expect_refusal(Remembering, &x, y, exact.shorter(0, 1), 4);
+            expect_refusal(Remembering, &x, y, exact.shorter(0, m).longer(5, 0), 4);
+        }
     }
 }
 
 #[test]
 fn the_plain_scan_asks_for_no_memory_room() {
     let probe = Probe::new(b"abab");
-    compare_in(Rooms::new([4, 4, 0], 2), Plain, &probe, b"ababab");
+    compare_in(Rooms::new(Work { tables: 8, memory: 0 }, 2), Plain, &probe, b"ababab");
 }
 
 #[test]
@@ -555,10 +575,50 @@ fn work_rooms_exact_and_longer_are_accepted() {
     for m in [1, 2, 5, 64] {
         let probe = Probe::new(&generator.word(2, m));
         let y = generator.word(2, 200);
-        for slack in [[0, 0, 0], [1, 0, 0], [0, 1, 0], [0, 0, 1], [9, 50, 300]] {
-            let work = slack.map(|more| m + more);
+        for (tables, memory) in [(0, 0), (1, 0), (0, 1), (2, 1), (9, 300), (300, 9)] {
+            let work = Work::exact(m).longer(tables, memory);
             for scanner in BOTH {
                 compare_in(Rooms::new(work, 200), scanner, &probe, &y);
+            }
+        }
+    }
+}
+
+#[test]
+fn work_rooms_of_every_length() {
+    for m in 1..=6 {
+        let probe = Probe::new(&fibonacci(m));
+        for y in [&probe.x[1..], &fibonacci(20)[..]] {
+            for tables in 0..=2 * m + 3 {
+                for memory in 0..=m + 2 {
+                    let work = Work { tables, memory };
+                    for scanner in BOTH {
+                        match scanner.refusal(m, y.len(), work) {
+                            Some(number) => expect_refusal(scanner, &probe.x, y, work, number),
+                            None => {
+                                compare_in(Rooms::new(work, 9), scanner, &probe, y);
+                            }
+                        }
+                    }
+                }
+            }
+        }
+    }
+}
+
+#[test]
+fn a_search_leaves_the_pairs_of_the_table_call() {
+    let mut generator = Generator::new(26);
+    for m in [1, 2, 7, 256, 4_095, 4_096] {
+        let x = generator.word(2, m);
+        let mut pairs = vec![0; 2 * m];
+        assert_eq!(nahuitepol::tables(&x, &mut pairs), 0);
+        for n in [0, m - 1, m, 3 * m] {
+            let y = generator.word(2, n);
+            for scanner in BOTH {
+                let mut rooms = Rooms::new(Work::exact(m).longer(3, 0), 2);
+                assert_eq!(rooms.search(scanner, &x, &y).refusal, 0);
+                assert!(rooms.tables.holds_just(&pairs), "{}", Case { scanner, x: &x, y: &y });
             }
         }
     }
@@ -571,10 +631,10 @@ fn the_lowest_number_is_given_where_several_causes_hold() {
     for m in [0, 1, 3, 4_096, 4_097] {
         let x = repeated(b"aab", m);
         for y in streams {
-            for shortage in shortages() {
-                let work = shortage.map(|short| (m + 1).saturating_sub(short));
+            for (tables, memory) in shortages() {
+                let work = Work::exact(m).longer(1, 1).shorter(tables, memory);
                 for scanner in BOTH {
-                    match scans::refusal(m, y.len(), scanner.rooms_taken(&work)) {
+                    match scanner.refusal(m, y.len(), work) {
                         Some(number) => expect_refusal(scanner, &x, y, work, number),
                         None => {
                             let answer = Rooms::new(work, 5).search(scanner, &x, y);
@@ -587,7 +647,7 @@ fn the_lowest_number_is_given_where_several_causes_hold() {
     }
 }
 
-/// How much three rooms fall short of one entry more than needed: each by 0, by 1 or by 2.
-fn shortages() -> impl Iterator<Item = [usize; 3]> {
-    (0..27).map(|code| [code % 3, code / 3 % 3, code / 9])
+/// How much two rooms fall short of one number more than needed: each by 0, by 1 or by 2.
+fn shortages() -> impl Iterator<Item = (usize, usize)> {
+    (0..9).map(|code| (code % 3, code / 3))
 }

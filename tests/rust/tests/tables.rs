@@ -1,37 +1,83 @@
 //! The three tables of a probe, compared with their definitions, and what the table calls refuse.
 
-use nahuitepol_tests::rooms::Room;
-use nahuitepol_tests::tables::{self, occurrence_table, period, shift_table, suffix_table, LONGEST_PROBE};
+use std::fmt::Debug;
+
+use nahuitepol_tests::rooms::{Number, Room};
+use nahuitepol_tests::tables::{
+    self, occurrence_table, pairs, period, shift_table, suffix_table, taken_apart, LONGEST_PROBE,
+};
 use nahuitepol_tests::words::{all_words_between, fibonacci, repeated, worst_probe, Generator};
 
-/// A call that writes a table to a room, and the table that it is to write.
-struct TableCall {
+/// A call that writes to a room, and what it is to write.
+struct TableCall<T> {
     name: &'static str,
-    call: fn(&[u8], &mut [u32]) -> u32,
-    table: fn(&[u8]) -> Vec<u32>,
+    call: fn(&[u8], &mut [T]) -> u32,
+    table: fn(&[u8]) -> Vec<T>,
+    /// The numbers that it writes for each byte of the probe.
+    per_byte: usize,
 }
 
-const ROOM_CALLS: [TableCall; 2] = [
-    TableCall { name: "suffix", call: nahuitepol::suffix, table: suffix_table },
-    TableCall { name: "shift", call: nahuitepol::shift, table: shift_table },
-];
+const SUFFIX: TableCall<u32> =
+    TableCall { name: "suffix", call: nahuitepol::suffix, table: suffix_table, per_byte: 1 };
+const SHIFT: TableCall<u32> =
+    TableCall { name: "shift", call: nahuitepol::shift, table: shift_table, per_byte: 1 };
+const PAIRS: TableCall<u16> =
+    TableCall { name: "tables", call: nahuitepol::tables, table: pairs_of, per_byte: 2 };
 
-impl TableCall {
-    /// Calls with a room that has `slack` entries more than the probe has bytes.
+const ROOM_CALLS: [&dyn RoomCall; 3] = [&SUFFIX, &SHIFT, &PAIRS];
+
+/// What is tested alike, whatever numbers the room holds.
+trait RoomCall {
+    /// The numbers that the room needs for a probe of m bytes.
+    fn needed(&self, m: usize) -> usize;
+
+    /// The refusal that is due for a probe of m bytes and a room of this length.
+    fn refusal(&self, m: usize, room_length: usize) -> Option<u32>;
+
+    /// Calls with a room that has `slack` numbers more than needed.
+    fn compare(&self, x: &[u8], slack: usize);
+
+    /// Calls with a room that holds small numbers already, two more than needed.
+    fn compare_over_left_over(&self, x: &[u8], generator: &mut Generator);
+
+    /// Calls with a room of this length and expects a refusal that leaves it as it was.
+    fn expect_refusal(&self, x: &[u8], room_length: usize, expected: u32);
+}
+
+impl<T: Number + Debug + From<u8>> RoomCall for TableCall<T> {
+    fn needed(&self, m: usize) -> usize {
+        self.per_byte * m
+    }
+
+    fn refusal(&self, m: usize, room_length: usize) -> Option<u32> {
+        tables::refusal(m, room_length, self.per_byte)
+    }
+
     fn compare(&self, x: &[u8], slack: usize) {
-        let mut room = Room::new(x.len() + slack);
+        let mut room = Room::new(self.needed(x.len()) + slack);
         let refusal = (self.call)(x, room.lend());
         assert_eq!(refusal, 0, "{} of {x:?}", self.name);
         assert!(room.holds_just(&(self.table)(x)), "{} of {x:?}: {:?}", self.name, room.lend());
     }
 
-    /// Calls with a room of this length and expects a refusal that leaves it as it was.
+    fn compare_over_left_over(&self, x: &[u8], generator: &mut Generator) {
+        let mut small_number = || T::from(generator.below(x.len() + 1) as u8);
+        let left_over: Vec<T> = (0..self.needed(x.len()) + 2).map(|_| small_number()).collect();
+        let mut room = Room::holding(&left_over);
+        assert_eq!((self.call)(x, room.lend()), 0);
+        assert!(room.holds_just(&(self.table)(x)), "{} of {x:?} over {left_over:?}", self.name);
+    }
+
     fn expect_refusal(&self, x: &[u8], room_length: usize, expected: u32) {
         let mut room = Room::new(room_length);
         let refusal = (self.call)(x, room.lend());
         assert_eq!(refusal, expected, "{} of {} bytes, room {room_length}", self.name, x.len());
         assert!(room.is_untouched(), "{} of {} bytes wrote on refusal {refusal}", self.name, x.len());
     }
+}
+
+fn pairs_of(x: &[u8]) -> Vec<u16> {
+    pairs(&suffix_table(x), &shift_table(x))
 }
 
 fn compare_occurrence(x: &[u8]) {
@@ -41,23 +87,31 @@ fn compare_occurrence(x: &[u8]) {
 }
 
 fn compare(x: &[u8]) {
-    for call in &ROOM_CALLS {
+    for call in ROOM_CALLS {
         call.compare(x, 0);
         call.compare(x, 3);
     }
     compare_occurrence(x);
+    assert_pairs_taken_apart_are_the_tables(x);
 }
 
-/// The table that a call writes to an exact room.
-fn written(call: fn(&[u8], &mut [u32]) -> u32, x: &[u8]) -> Vec<u32> {
-    let mut room = vec![0; x.len()];
-    assert_eq!(call(x, &mut room), 0);
+fn assert_pairs_taken_apart_are_the_tables(x: &[u8]) {
+    let (suffix, shift) = taken_apart(&written(&PAIRS, x));
+    assert!(suffix == written(&SUFFIX, x), "the suffix entries of the pairs of {x:?}: {suffix:?}");
+    assert!(shift == written(&SHIFT, x), "the shift entries of the pairs of {x:?}: {shift:?}");
+}
+
+/// What a call writes to an exact room.
+fn written<T: From<u8> + Clone>(call: &TableCall<T>, x: &[u8]) -> Vec<T> {
+    let mut room = vec![T::from(0); call.per_byte * x.len()];
+    assert_eq!((call.call)(x, &mut room), 0);
     room
 }
 
 fn figure(x: &[u8], suffix: &[u32], shift: &[u32], occurrence: &[(u8, u32)]) {
-    assert_eq!(written(nahuitepol::suffix, x), suffix, "suffix of {x:?}");
-    assert_eq!(written(nahuitepol::shift, x), shift, "shift of {x:?}");
+    assert_eq!(written(&SUFFIX, x), suffix, "suffix of {x:?}");
+    assert_eq!(written(&SHIFT, x), shift, "shift of {x:?}");
+    assert_eq!(taken_apart(&written(&PAIRS, x)), (suffix.to_vec(), shift.to_vec()), "pairs of {x:?}");
     let mut table = [x.len() as u32; 256];
     for (byte, entry) in occurrence {
         table[usize::from(*byte)] = *entry;
@@ -72,6 +126,15 @@ fn the_five_rows_of_document_01() {
     figure(b"abab", &[0, 2, 0, 4], &[2, 2, 4, 1], &[(b'a', 1), (b'b', 2)]);
     figure(b"aaaa", &[1, 2, 3, 4], &[1, 2, 3, 4], &[(b'a', 1)]);
     figure(b"caaa", &[0, 1, 2, 4], &[4, 1, 2, 3], &[(b'a', 1), (b'c', 3)]);
+}
+
+#[test]
+fn the_pairs_of_both_tables_as_they_lie_in_the_room() {
+    assert_eq!(written(&PAIRS, b"b"), [1, 1]);
+    assert_eq!(written(&PAIRS, b"aab"), [0, 3, 0, 3, 3, 1]);
+    assert_eq!(written(&PAIRS, b"abab"), [0, 2, 2, 2, 0, 4, 4, 1]);
+    assert_eq!(written(&PAIRS, b"aaaa"), [1, 1, 2, 2, 3, 3, 4, 4]);
+    assert_eq!(written(&PAIRS, b"caaa"), [0, 4, 1, 1, 2, 2, 4, 3]);
 }
 
 #[test]
@@ -144,16 +207,16 @@ fn probes_of_the_greatest_length() {
 #[test]
 fn entry_0_of_the_shift_table_is_the_period() {
     for x in all_words_between(2, 1, 10) {
-        assert_eq!(written(nahuitepol::shift, &x)[0], period(&x), "{x:?}");
+        assert_eq!(written(&SHIFT, &x)[0], period(&x), "{x:?}");
     }
     let fibonacci_word = fibonacci(LONGEST_PROBE);
-    assert_eq!(written(nahuitepol::shift, &fibonacci_word)[0], period(&fibonacci_word));
+    assert_eq!(written(&SHIFT, &fibonacci_word)[0], period(&fibonacci_word));
 }
 
 #[test]
 fn the_last_suffix_entry_is_the_length() {
     for x in all_words_between(3, 1, 6) {
-        assert_eq!(written(nahuitepol::suffix, &x)[x.len() - 1], x.len() as u32, "{x:?}");
+        assert_eq!(written(&SUFFIX, &x)[x.len() - 1], x.len() as u32, "{x:?}");
     }
 }
 
@@ -168,7 +231,7 @@ fn a_byte_only_in_the_last_place_has_the_length_as_occurrence_entry() {
 
 #[test]
 fn an_empty_probe_is_refused_1_whatever_the_room() {
-    for call in &ROOM_CALLS {
+    for call in ROOM_CALLS {
         for room in [0, 1, 10] {
             call.expect_refusal(b"", room, 1);
         }
@@ -177,10 +240,11 @@ fn an_empty_probe_is_refused_1_whatever_the_room() {
 
 #[test]
 fn a_probe_over_4096_bytes_is_refused_2_whatever_the_room() {
-    for call in &ROOM_CALLS {
+    for call in ROOM_CALLS {
         for length in [4_097, 4_098, 8_192, 70_000] {
             let x = vec![b'a'; length];
-            for room in [0, 4_096, length - 1, length, length + 1] {
+            for room in [0, 4_096, length - 1, length, length + 1, 2 * length - 1, 2 * length, 2 * length + 1]
+            {
                 call.expect_refusal(&x, room, 2);
             }
         }
@@ -192,23 +256,37 @@ fn a_room_short_by_one_or_more_is_refused_4_and_left_alone() {
     let mut generator = Generator::new(4);
     for length in (1..=40).chain([255, 256, 257, 4_095, 4_096]) {
         let x = generator.word(2, length);
-        for call in &ROOM_CALLS {
-            call.expect_refusal(&x, length - 1, 4);
-            call.expect_refusal(&x, length / 2, 4);
+        for call in ROOM_CALLS {
+            let needed = call.needed(length);
+            call.expect_refusal(&x, needed - 1, 4);
+            call.expect_refusal(&x, needed / 2, 4);
             call.expect_refusal(&x, 0, 4);
         }
     }
 }
 
 #[test]
+fn pairs_of_the_greatest_length_need_8192_numbers() {
+    let x = vec![b'a'; LONGEST_PROBE];
+    for room in [0, 4_095, 4_096, 4_097, 8_190, 8_191] {
+        PAIRS.expect_refusal(&x, room, 4);
+    }
+    for slack in [0, 1, 2, 4_096] {
+        PAIRS.compare(&x, slack);
+    }
+    let counted: Vec<u16> = (1..=4_096).flat_map(|entry| [entry, entry]).collect();
+    assert!(written(&PAIRS, &x) == counted, "both entries count from 1 to 4,096");
+}
+
+#[test]
 fn a_room_of_any_length_is_answered_by_the_table_of_refusals() {
     for length in 0..=12 {
         let x = fibonacci(length);
-        for room in 0..=20 {
-            for call in &ROOM_CALLS {
-                match tables::refusal(length, room) {
+        for room in 0..=30 {
+            for call in ROOM_CALLS {
+                match call.refusal(length, room) {
                     Some(number) => call.expect_refusal(&x, room, number),
-                    None => call.compare(&x, room - length),
+                    None => call.compare(&x, room - call.needed(length)),
                 }
             }
         }
@@ -230,11 +308,8 @@ fn what_a_room_held_before_does_not_matter() {
     for _ in 0..2_000 {
         let length = generator.between(1, 20);
         let x = generator.word(2, length);
-        let left_over: Vec<u32> = (0..length + 2).map(|_| generator.below(length + 1) as u32).collect();
-        for call in &ROOM_CALLS {
-            let mut room = Room::holding(&left_over);
-            assert_eq!((call.call)(&x, room.lend()), 0);
-            assert!(room.holds_just(&(call.table)(&x)), "{} of {x:?} over {left_over:?}", call.name);
+        for call in ROOM_CALLS {
+            call.compare_over_left_over(&x, &mut generator);
         }
     }
 }
