@@ -3,16 +3,17 @@
 #include <stdio.h>
 #include "nahuitepol.h"
 
-enum { DRAWS = 32, ROOM = 8 * DRAWS, RESULT = 4 * 64 * 63, LONGEST = 65536 };
+enum { DRAWS = 32, PROBE = 8 * DRAWS, RESULT = 4 * 64 * 63, LONGEST = 65536 };
 
 int main(int argc, char **argv) {
     static uint8_t log[LONGEST + 1];
-    static uint32_t suffix[ROOM], shift[ROOM], memory[ROOM], result[RESULT];
+    static uint16_t tables[2 * PROBE];
+    static uint32_t memory[PROBE], result[RESULT];
     FILE *file = argc == 2 ? fopen(argv[1], "rb") : NULL;
     if (file == NULL) return 2;
     size_t length = fread(log, 1, sizeof log, file);
 
-    nahui_checked found = nahui_check(log, length, DRAWS, suffix, ROOM, shift, ROOM, memory, ROOM, result, RESULT);
+    nahui_checked found = nahui_check(log, length, DRAWS, tables, 2 * PROBE, memory, PROBE, result, RESULT);
     if (found.refusal != 0) {
         printf("refused: number %u, entry %u\n", found.refusal, found.entry);
         return 2;

@@ -5,7 +5,7 @@
 !> Prints a line for each overlapping pair, then the totals. Ends with status 0 if the log is sound and no pair
 !> overlaps, with 1 if one does, and with 2 if the log is refused or cannot be read.
 program launcher
-  use, intrinsic :: iso_c_binding, only: c_int8_t, c_int32_t
+  use, intrinsic :: iso_c_binding, only: c_int8_t, c_int16_t, c_int32_t
   use, intrinsic :: iso_fortran_env, only: error_unit
   use nahuitepol
   implicit none
@@ -14,12 +14,12 @@ program launcher
   integer(c_int32_t), parameter :: p = 32
 
   integer(c_int8_t), allocatable :: log(:)
-  integer(c_int32_t) :: suffix(8 * p), shift(8 * p), memory(8 * p)
-  integer(c_int32_t) :: found(4 * most_replicates * (most_replicates - 1))
+  integer(c_int16_t) :: tables(16 * p)
+  integer(c_int32_t) :: memory(8 * p), found(4 * most_replicates * (most_replicates - 1))
   type(nahui_checked) :: answer
 
   call read_log(log)
-  answer = nahui_check(log, p, suffix, shift, memory, found)
+  answer = nahui_check(log, p, tables, memory, found)
   if (answer%refusal /= 0) then
     print '(a, i0, a, i0)', 'the log is refused: number ', answer%refusal, ', entry ', answer%entry
     stop 2, quiet=.true.

@@ -14,8 +14,8 @@ fn main() -> Result<(), Box<dyn Error>> {
     let log = fs::read(word(1)?)?;
     let (owner, searched) = (block(&log, &word(2)?)?, block(&log, &word(3)?)?);
     let probe = owner.get(..256).ok_or("A has fewer than 32 draws")?;
-    let (mut suffix, mut shift, mut memory, mut positions) = ([0; 256], [0; 256], [0; 256], [0; 65_536]);
-    let found = remember(probe, searched, &mut suffix, &mut shift, &mut memory, &mut positions);
+    let (mut tables, mut memory, mut positions) = ([0; 512], [0; 256], [0; 65_536]);
+    let found = remember(probe, searched, &mut tables, &mut memory, &mut positions);
     assert_eq!(found.refusal, 0, "the rooms are large enough");
     println!("{:?}, found with {} comparisons", &positions[..found.written as usize], found.comparisons);
     Ok(())

@@ -69,16 +69,14 @@ fn main() {
     for (name, y) in streams() {
         let x = y[..PROBE].to_vec();
         let mut rooms = Rooms { suffix: vec![0; PROBE], shift: vec![0; PROBE], positions: vec![0; STREAM] };
-        let mut memory = vec![0; PROBE];
+        let (mut tables, mut memory) = (vec![0; 2 * PROBE], vec![0; PROBE]);
         let (mut rust, mut plain, mut remember) = (Times(vec![]), Times(vec![]), Times(vec![]));
         let mut last = None;
         for _ in 0..WARM + ROUNDS {
             let a = rust.take(|| plain::search(&x, &y, &mut rooms));
-            let b = plain.take(|| {
-                nahuitepol::plain(&x, &y, &mut rooms.suffix, &mut rooms.shift, &mut rooms.positions)
-            });
+            let b = plain.take(|| nahuitepol::plain(&x, &y, &mut tables, &mut rooms.positions));
             let c = remember.take(|| {
-                nahuitepol::remember(&x, &y, &mut rooms.suffix, &mut rooms.shift, &mut memory, &mut rooms.positions)
+                nahuitepol::remember(&x, &y, &mut tables, &mut memory, &mut rooms.positions)
             });
             assert_eq!(a, counts(b), "the two plain scans differ");
             last = Some((a, counts(c)));
