@@ -29,6 +29,7 @@ program check
   answer = nahui_check(log, p, tables(:512), memory(:256), found)
   call expect(answer%refusal == 0 .and. answer%pairs == 1, 'one pair')
   call expect(all(tables(:512) == 0) .and. all(memory(:256) == 0), 'work rooms end at 0')
+  call expect(all(tables(513:) == untouched_entry) .and. all(memory(257:) == untouched), 'nothing else is touched')
 
   call begin('refusals of the check')
   call fresh_rooms()

@@ -1,7 +1,7 @@
 //! The overlap check: every block searched for the front of every other one, at every byte offset.
 
 use crate::log::{self, Entry, Refusal};
-use crate::scans;
+use crate::scans::{self, Work};
 
 /// The most draws that a probe may have.
 pub const MOST_DRAWS: u32 = 512;
@@ -13,20 +13,14 @@ pub struct Check {
     pub unprobed: u32,
 }
 
-/// The check of a log with p draws, given the lengths of the tables, the memory and the result room.
-pub fn check(
-    log: &[u8],
-    p: u32,
-    tables_room: usize,
-    memory_room: usize,
-    result_room: usize,
-) -> Result<Check, Refusal> {
+/// The check of a log with p draws, given the lengths of the work rooms and of the result room.
+pub fn check(log: &[u8], p: u32, work: Work, result_room: usize) -> Result<Check, Refusal> {
     let entries = log::test(log)?;
     if !(1..=MOST_DRAWS).contains(&p) {
         return Err(Refusal::plain(20));
     }
     let probe_length = probe_length(p);
-    if tables_room < 2 * probe_length || memory_room < probe_length {
+    if work.tables < 2 * probe_length || work.memory < probe_length {
         return Err(Refusal::plain(4));
     }
     if result_room < numbers_needed(entries.len()) {
@@ -35,7 +29,7 @@ pub fn check(
     Ok(search_all(log, &entries, probe_length))
 }
 
-/// The bytes of a probe of p draws. The tables room needs two numbers for each of them, the memory room one.
+/// The bytes of a probe of p draws.
 pub fn probe_length(p: u32) -> usize {
     8 * p as usize
 }

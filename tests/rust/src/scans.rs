@@ -5,6 +5,30 @@ use crate::tables::{self, LONGEST_PROBE};
 /// The most bytes that a stream may have.
 pub const LONGEST_STREAM: usize = 16_777_216;
 
+/// The lengths of the work rooms: the room of both tables, and the memory room, which the plain scan does not take.
+#[derive(Debug, Clone, Copy, PartialEq, Eq)]
+pub struct Work {
+    pub tables: usize,
+    pub memory: usize,
+}
+
+impl Work {
+    /// What a probe of m bytes needs.
+    pub fn exact(m: usize) -> Work {
+        Work { tables: 2 * m, memory: m }
+    }
+
+    /// Both rooms longer by so many numbers.
+    pub fn longer(self, tables: usize, memory: usize) -> Work {
+        Work { tables: self.tables + tables, memory: self.memory + memory }
+    }
+
+    /// Both rooms shorter by so many numbers, as far as they have them.
+    pub fn shorter(self, tables: usize, memory: usize) -> Work {
+        Work { tables: self.tables.saturating_sub(tables), memory: self.memory.saturating_sub(memory) }
+    }
+}
+
 /// The refusal of a search, given the lengths of its work rooms, if there is one. The plain scan has no memory room.
 pub fn refusal(m: usize, n: usize, tables_room: usize, memory_room: Option<usize>) -> Option<u32> {
     if m == 0 {

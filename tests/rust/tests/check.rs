@@ -6,6 +6,7 @@ use nahuitepol_tests::check::{check, numbers_needed, probe_length, MOST_DRAWS};
 use nahuitepol_tests::log::{self, document_log, draws, Parts};
 use nahuitepol_tests::rooms::Room;
 use nahuitepol_tests::samples::{self, numbered, refused_logs};
+use nahuitepol_tests::scans::Work;
 use nahuitepol_tests::words::{fibonacci, Generator};
 
 /// The rooms that the check takes.
@@ -15,23 +16,9 @@ struct Rooms {
     result: Room,
 }
 
-/// The lengths of the work rooms.
-#[derive(Debug, Clone, Copy)]
-struct Work {
-    tables: usize,
-    memory: usize,
-}
-
 const NO_ROOMS: Work = Work { tables: 0, memory: 0 };
 
 const NO_LINES: [[u32; 4]; 0] = [];
-
-impl Work {
-    /// What probes of p draws need.
-    fn exact(p: u32) -> Work {
-        Work { tables: 2 * probe_length(p), memory: probe_length(p) }
-    }
-}
 
 impl Rooms {
     fn new(work: Work, result: usize) -> Rooms {
@@ -60,7 +47,7 @@ fn compare_with(log: &[u8], p: u32, work: Work, result: usize) -> Checked {
     let mut rooms = Rooms::new(work, result);
     let answer = rooms.check(log, p);
     let context = format!("log of {} bytes, p {p}, rooms {work:?} and {result}", log.len());
-    match check(log, p, work.tables, work.memory, result) {
+    match check(log, p, work, result) {
         Ok(found) => {
             let pairs = (found.result.len() / 4) as u32;
             let expected = Checked { refusal: 0, entry: 0, pairs, unprobed: found.unprobed };
@@ -75,17 +62,23 @@ fn compare_with(log: &[u8], p: u32, work: Work, result: usize) -> Checked {
     answer
 }
 
-/// One check with rooms that are longer than needed.
+/// The work rooms that probes of p draws need.
+fn exact(p: u32) -> Work {
+    Work::exact(probe_length(p))
+}
+
+/// One check with rooms as long as needed, and one with longer ones.
 fn compare(parts: &Parts, p: u32) -> Checked {
-    let Work { tables, memory } = Work::exact(p);
+    let log = parts.bytes();
     let result = numbers_needed(parts.entries.len());
-    compare_with(&parts.bytes(), p, Work { tables: tables + 1, memory: memory + 2 }, result + 3)
+    compare_with(&log, p, exact(p), result);
+    compare_with(&log, p, exact(p).longer(3, 2), result + 3)
 }
 
 /// The lines of a check of these blocks, whose ids are 1, 2, ..
 fn lines(blocks: &[&[u8]], p: u32) -> Vec<[u32; 4]> {
     let parts = numbered(blocks);
-    let mut rooms = Rooms::new(Work::exact(p), numbers_needed(blocks.len()));
+    let mut rooms = Rooms::new(exact(p), numbers_needed(blocks.len()));
     let answer = rooms.check(&parts.bytes(), p);
     assert_eq!(answer.refusal, 0);
     let numbers = &rooms.result.lend()[..4 * answer.pairs as usize];
@@ -116,7 +109,7 @@ fn the_log_of_document_01_has_the_pair_3_7_64_1_and_9_unprobed() {
     let answer = rooms.check(&document_log(), 32);
     assert_eq!(answer, Checked { refusal: 0, entry: 0, pairs: 1, unprobed: 1 });
     rooms.assert_after_success(32, &[3, 7, 64, 1], "document 01");
-    compare_with(&document_log(), 32, Work::exact(32), 24);
+    compare_with(&document_log(), 32, exact(32), 24);
 }
 
 #[test]
@@ -181,7 +174,7 @@ fn an_owner_with_exactly_p_draws_is_probed_and_one_with_fewer_is_not() {
 fn one_replicate_needs_no_result_room_and_has_no_pair() {
     for length in [0, 1, 5] {
         let log = numbered(&[&draws((0..length).map(|_| 0))]).bytes();
-        let answer = compare_with(&log, 2, Work::exact(2), 0);
+        let answer = compare_with(&log, 2, exact(2), 0);
         let unprobed = u32::from(length < 2);
         assert_eq!(answer, Checked { refusal: 0, entry: 0, pairs: 0, unprobed });
     }
@@ -194,8 +187,8 @@ fn sixty_four_equal_replicates_give_4032_pairs() {
     assert_eq!(compare(&parts, 10), Checked { refusal: 0, entry: 0, pairs: 4_032, unprobed: 0 });
     assert_eq!(compare(&parts, 1).pairs, 4_032);
     let log = parts.bytes();
-    compare_with(&log, 10, Work::exact(10), 16_128);
-    expect_refusal(&log, 10, Work::exact(10), 16_127, 5, 0);
+    compare_with(&log, 10, exact(10), 16_128);
+    expect_refusal(&log, 10, exact(10), 16_127, 5, 0);
 }
 
 #[test]
@@ -263,21 +256,10 @@ fn p_outside_1_to_512_is_refused_20() {
 #[test]
 fn each_work_room_short_by_one_is_refused_4_and_all_rooms_left_alone() {
     for p in [1, 2, 32, 512] {
-        let exact = Work::exact(p);
-        for tables in [exact.tables - 1, exact.tables / 2, 0] {
-            expect_refusal(&document_log(), p, Work { tables, ..exact }, 24, 4, 0);
+        let need = probe_length(p);
+        for (tables, memory) in [(1, 0), (need, 0), (2 * need, 0), (0, 1), (0, need), (1, 1)] {
+            expect_refusal(&document_log(), p, exact(p).shorter(tables, memory), 24, 4, 0);
         }
-        for memory in [exact.memory - 1, exact.memory / 2, 0] {
-            expect_refusal(&document_log(), p, Work { memory, ..exact }, 24, 4, 0);
-        }
-        expect_refusal(
-            &document_log(),
-            p,
-            Work { tables: exact.tables - 1, memory: exact.memory - 1 },
-            24,
-            4,
-            0,
-        );
         expect_refusal(&document_log(), p, NO_ROOMS, 24, 4, 0);
     }
 }
@@ -290,7 +272,7 @@ fn a_short_work_room_is_refused_4_even_if_no_owner_is_probed() {
     let alone = numbered(&[&[]]).bytes();
     expect_refusal(&alone, 512, Work { tables: 8_191, memory: 4_096 }, 0, 4, 0);
     expect_refusal(&alone, 512, Work { tables: 8_192, memory: 4_095 }, 0, 4, 0);
-    assert_eq!(compare_with(&alone, 512, Work::exact(512), 0).unprobed, 1);
+    assert_eq!(compare_with(&alone, 512, exact(512), 0).unprobed, 1);
 }
 
 #[test]
@@ -308,10 +290,10 @@ fn a_result_room_below_4_c_times_c_minus_1_is_refused_5() {
     for count in 2..=64usize {
         let log = numbered(&vec![&[][..]; count]).bytes();
         let need = 4 * count * (count - 1);
-        expect_refusal(&log, 1, Work::exact(1), need - 1, 5, 0);
-        expect_refusal(&log, 1, Work::exact(1), 0, 5, 0);
-        assert_eq!(compare_with(&log, 1, Work::exact(1), need).refusal, 0);
-        assert_eq!(compare_with(&log, 1, Work::exact(1), need + 1).refusal, 0);
+        expect_refusal(&log, 1, exact(1), need - 1, 5, 0);
+        expect_refusal(&log, 1, exact(1), 0, 5, 0);
+        assert_eq!(compare_with(&log, 1, exact(1), need).refusal, 0);
+        assert_eq!(compare_with(&log, 1, exact(1), need + 1).refusal, 0);
     }
 }
 
@@ -320,13 +302,13 @@ fn refusals_come_in_the_order_log_20_4_5() {
     let sound = document_log();
     let wrong_mark = Parts { mark: *b"WARD", ..numbered(&[&[], &[]]) }.bytes();
     expect_refusal(&wrong_mark, 0, NO_ROOMS, 0, 12, 0);
-    expect_refusal(&wrong_mark, 32, Work::exact(32), 24, 12, 0);
+    expect_refusal(&wrong_mark, 32, exact(32), 24, 12, 0);
     expect_refusal(&sound, 0, NO_ROOMS, 0, 20, 0);
-    expect_refusal(&sound, 513, Work::exact(32), 23, 20, 0);
+    expect_refusal(&sound, 513, exact(32), 23, 20, 0);
     expect_refusal(&sound, 32, Work { tables: 511, memory: 255 }, 23, 4, 0);
     expect_refusal(&sound, 32, Work { tables: 511, memory: 256 }, 23, 4, 0);
     expect_refusal(&sound, 32, Work { tables: 512, memory: 255 }, 23, 4, 0);
-    expect_refusal(&sound, 32, Work::exact(32), 23, 5, 0);
+    expect_refusal(&sound, 32, exact(32), 23, 5, 0);
 }
 
 #[test]
@@ -346,7 +328,7 @@ fn every_choice_of_short_exact_and_longer_rooms() {
 #[test]
 fn refused_logs_carry_their_number_and_entry() {
     for (log, refusal) in refused_logs() {
-        expect_refusal(&log, 1, Work::exact(1), 24, refusal.number, refusal.entry);
+        expect_refusal(&log, 1, exact(1), 24, refusal.number, refusal.entry);
         expect_refusal(&log, 0, NO_ROOMS, 0, refusal.number, refusal.entry);
     }
 }
@@ -366,7 +348,7 @@ fn what_the_rooms_held_before_does_not_matter() {
             result: Room::holding(&wide(left_over(need))),
         };
         let answer = rooms.check(&parts.bytes(), 2);
-        let found = check(&parts.bytes(), 2, 33, 18, need).expect("a sound log");
+        let found = check(&parts.bytes(), 2, Work { tables: 33, memory: 18 }, need).expect("a sound log");
         assert_eq!((answer.refusal, answer.unprobed), (0, found.unprobed));
         rooms.assert_after_success(2, &found.result, "rooms in use before");
     }
@@ -378,7 +360,7 @@ fn the_log_stays_as_it_was() {
     for _ in 0..500 {
         let log = random_parts(&mut generator, 5, 6).bytes();
         let before = log.clone();
-        let answer = Rooms::new(Work::exact(2), numbers_needed(5)).check(&log, 2);
+        let answer = Rooms::new(exact(2), numbers_needed(5)).check(&log, 2);
         assert_eq!(answer.refusal, 0);
         assert!(log == before, "the log was written to");
     }

@@ -5,7 +5,7 @@ use std::fmt::{self, Display, Formatter};
 
 use nahuitepol::Searched;
 use nahuitepol_tests::rooms::Room;
-use nahuitepol_tests::scans::{self, positions, Probe, Scan, LONGEST_STREAM};
+use nahuitepol_tests::scans::{self, positions, Probe, Scan, Work, LONGEST_STREAM};
 use nahuitepol_tests::words::{all_words_between, fibonacci, repeated, worst_probe, Generator};
 
 /// An answer in which every number is 0.
@@ -29,29 +29,6 @@ impl Scanner {
             Plain => scans::refusal(m, n, work.tables, None),
             Remembering => scans::refusal(m, n, work.tables, Some(work.memory)),
         }
-    }
-}
-
-/// The lengths of the work rooms.
-#[derive(Debug, Clone, Copy)]
-struct Work {
-    tables: usize,
-    memory: usize,
-}
-
-impl Work {
-    /// What a probe of m bytes needs.
-    fn exact(m: usize) -> Work {
-        Work { tables: 2 * m, memory: m }
-    }
-
-    fn longer(self, tables: usize, memory: usize) -> Work {
-        Work { tables: self.tables + tables, memory: self.memory + memory }
-    }
-
-    /// Both rooms shorter, or empty.
-    fn shorter(self, tables: usize, memory: usize) -> Work {
-        Work { tables: self.tables.saturating_sub(tables), memory: self.memory.saturating_sub(memory) }
     }
 }
 
