@@ -55,9 +55,9 @@ pub fn clear(room: &mut [u32], n: usize)
 pub fn clear16(room: &mut [u16], n: usize)
     ensures { λ _. ⌜ now (room .exit) ≡ front (replicate (min n (length (now (room .entry)))) 0) (now (room .entry)) ⌝ }
 {
-    let end = smaller(n, room.len());
+    let count = smaller(n, room.len());
     let mut i = 0;
-    while i < end {
+    while i < count {
         room[i] = 0;
         i += 1;
     }

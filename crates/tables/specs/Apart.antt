@@ -1,10 +1,10 @@
 -- Taking the pairs apart gives the two tables exactly: a theorem over the definitions, and what it says of the rooms of the calls. Assumes nothing.
-use mathlib.Core.Path.{_≡_, refl, sym, ap, _∙_}
+use mathlib.Core.Path.{_≡_, sym, ap, _∙_}
 use mathlib.Core.List.{List}
 use Prim.Native.Nat.{ℕ, _*_}
 use lib.ListN.{length, take}
 use lib.Seq.{take-at}
-use Rattle.basics.specs.Rooms.{front, roomAfter}
+use Rattle.basics.specs.Rooms.{front}
 use Rattle.tables.specs.Suffix.{suffixTable}
 use Rattle.tables.specs.Shift.{shiftTable}
 use Rattle.tables.specs.Both.{bothTables, firsts, seconds}

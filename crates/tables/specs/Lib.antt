@@ -15,5 +15,7 @@ pub mod Promise
 pub mod Apart
 -- the starred rows
 pub mod Figures
+-- what the private functions promise each other: no part of a public promise
+pub mod Inside
 -- the laws, for the proofs of this crate and of those above it
 pub mod laws

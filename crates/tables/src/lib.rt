@@ -18,7 +18,7 @@ ghost use Rattle.basics.specs.Rooms.{front};
 ghost use Rattle.tables.specs.Suffix.{suffixTable};
 ghost use Rattle.tables.specs.Shift.{shiftTable};
 ghost use Rattle.tables.specs.Refusal.{longest, refusalOf};
-ghost use Rattle.tables.specs.laws.Both.{everySecond};
+ghost use Rattle.tables.specs.Inside.{everySecond};
 ghost use Rattle.tables.specs.Both.{bothTables};
 ghost use Rattle.tables.specs.Promise.{Written, occurrenceOf};
 

@@ -15,7 +15,7 @@ ghost use Rattle.tables.specs.Suffix.{suffixTable};
 ghost use Rattle.tables.specs.Shift.{shiftTable};
 ghost use Rattle.tables.specs.Both.{firsts, seconds};
 ghost use Rattle.tables.specs.Refusal.{longest};
-ghost use Rattle.tables.specs.laws.Both.{Secondly};
+ghost use Rattle.tables.specs.Inside.{Secondly};
 ghost use Rattle.tables.specs.laws.Figure11.{ends, above, spreadAt};
 
 // Fills the second place of each pair, in a room that is long enough and has the suffix table at the first places.

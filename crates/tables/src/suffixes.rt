@@ -4,7 +4,7 @@ ghost use Prim.Native.Nat.{_*_, _<_, _≤_};
 ghost use lib.ListN.{length};
 ghost use Rattle.tables.specs.Suffix.{suffixAt, suffixTable};
 ghost use Rattle.tables.specs.Refusal.{longest};
-ghost use Rattle.tables.specs.laws.Both.{Firstly};
+ghost use Rattle.tables.specs.Inside.{Firstly};
 
 // Fills the first place of each pair, in a room that is long enough.
 pub(crate) fn fill(x: &[u8], room: &mut [u16])

@@ -11,10 +11,10 @@ use Rattle.basics.proofs.clear16.Statement.{statement}
 use Rattle.basics.proofs.clear16.Tie as tie
 
 abbrev Inv-loop : tie.InvT-loop
-Inv-loop room₀ n end i₀ room i = (i ≤ end) × (length room ≡ length room₀) × (room ≡ replicate i 0 ++ drop i room₀)
+Inv-loop room₀ n count i₀ room i = (i ≤ count) × (length room ≡ length room₀) × (room ≡ replicate i 0 ++ drop i room₀)
 
 abbrev μ-loop : tie.MeasureT-loop
-μ-loop room₀ n end i₀ room i = end - i
+μ-loop room₀ n count i₀ room i = count - i
 
 smaller-requires : tie.Need-smaller-requires Inv-loop μ-loop
 smaller-requires c κs = search needs

@@ -1,7 +1,6 @@
 -- `scans::prepare` meets its contract: where no cause holds, the calls of `tables` refuse nothing either.
 -- Assumes nothing.
 use mathlib.Core.Path.{sym, ap, _∙_}
-use native.Mathlib.Omega.{arith}
 use lib.ListN.{length}
 use borrow.Author.Needs.{needs}
 use Rattle.basics.specs.laws.Rooms.{room-kept}

@@ -1,7 +1,6 @@
 -- `scans::search` meets its contract.
 -- Assumes nothing.
 use mathlib.Core.Path.{sym, _∙_}
-use native.Mathlib.Omega.{arith}
 use borrow.Author.Needs.{needs}
 use Rattle.basics.specs.laws.Rooms.{room-kept}
 use Rattle.scans.specs.Remember.{remembering}

@@ -4,15 +4,16 @@ use mathlib.Core.List.{List, [], _∷_, _++_}
 use Prim.Native.Nat.{ℕ, zero, suc, _+_, _*_, _≤_, _<_}
 use native.Mathlib.Numerals.{add-one}
 use native.Mathlib.Omega.{arith}
-use lib.ListN.{length, drop, set, length-append}
+use lib.ListN.{length, drop, set}
 use lib.Seq.{drop-nil}
-use Rattle.basics.specs.Lists.{at, table}
+use Rattle.basics.specs.Lists.{at}
 use Rattle.basics.specs.Rooms.{front, Begins}
 use Rattle.basics.specs.laws.Lists.{table-is}
 use Rattle.basics.specs.laws.Rooms.{begins-front}
 use Rattle.tables.specs.Suffix.{suffixAt, suffixTable}
 use Rattle.tables.specs.Shift.{shiftAt, shiftTable}
 use Rattle.tables.specs.Both.{inPairs, bothTables, firsts, seconds}
+use Rattle.tables.specs.Inside.{Firstly, Secondly, everySecond}
 use Rattle.tables.specs.laws.Suffix.{length-suffixTable, at-suffixTable, suffix-le}
 use Rattle.tables.specs.laws.Shift.{length-shiftTable, at-shiftTable}
 
@@ -139,15 +140,7 @@ drop-pairs (suc n) [] = rw (twice n)
 drop-pairs (suc n) (a ∷ []) = rw (twice n, drop-nil {A = ℕ} n)
 drop-pairs (suc n) (a ∷ b ∷ d) = rw (twice n) (drop-pairs n d)
 
--- A ROOM WRITTEN: the room d′ is d with the list t in front of its firsts, or of its seconds, and the others as they were
-pub record Firstly (t d d′ : List ℕ) : Type 0 where
-  pub written : firsts d′ ≡ front t (firsts d)
-  pub others : seconds d′ ≡ seconds d
-
-pub record Secondly (t d d′ : List ℕ) : Type 0 where
-  pub written : seconds d′ ≡ front t (seconds d)
-  pub others : firsts d′ ≡ firsts d
-
+-- A ROOM WRITTEN, in its firsts or in its seconds
 pub begins-first : {t d d′ : List ℕ} → Firstly t d d′ → 2 * length t ≤ length d → Begins t (firsts d′)
 begins-first {t} {d} w l = begins-front t (firsts d) (half-reaches (length t) d l .0) (w .written)
 
@@ -164,10 +157,7 @@ both-written {s} {h} {d} {d₁} {d₂} u v e =
     pairs-append s h (drop (length s) (firsts d)) (drop (length h) (seconds d)) e in
     rw (← together d₂, f, g, apart, n, rest, length-pairs s h e)
 
--- every second number of the room d, from number `from` on: m of them
-abbrev pub everySecond : ℕ → List ℕ → ℕ → List ℕ
-everySecond from d m = table m (λ i. at d (from + 2 * i))
-
+-- EVERY SECOND NUMBER of a room that has a list in front of its firsts, or of its seconds, is that list
 pub first-of-each : {t : List ℕ} (d : List ℕ) (m : ℕ) → length t ≡ m → Begins t (firsts d) → everySecond 0 d m ≡ t
 first-of-each {t} d m n b =
     sym

@@ -1,6 +1,6 @@
 -- `tables::shifts::fill` meets its contract: the second loop begins with what the first one left.
 -- Assumes nothing.
-use mathlib.Core.Path.{ap, _∙_}
+use mathlib.Core.Path.{_∙_}
 use native.Mathlib.Omega.{arith}
 use lib.ListN.{length}
 use borrow.Author.Needs.{needs}
