@@ -7,7 +7,7 @@ use crate::sample;
 // What the longest probe needs of a room with an entry for each byte, and of the room for both tables.
 const WORK: usize = 4096;
 
-const PAIRED: usize = 8192;
+const PAIRED: usize = 2 * WORK;
 
 // The numbers that the pairs of three replicates take: 4 * 3 * 2.
 const RESULT: usize = 24;

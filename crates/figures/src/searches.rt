@@ -6,14 +6,14 @@ use crate::pieces::labelled;
 // The most bytes of a probe, and the most positions, in the rows that list positions; and what both tables take.
 const MOST: usize = 16;
 
-const PAIRED: usize = 32;
+const PAIRED: usize = 2 * MOST;
 
 // The long row: so many equal bytes, and how many of them are the probe.
 const STREAM: usize = 61440;
 
 const PROBE: usize = 256;
 
-const PROBE_PAIRED: usize = 512;
+const PROBE_PAIRED: usize = 2 * PROBE;
 
 // Puts the second table.
 pub(crate) fn put(out: &mut [u8], at: usize) -> usize {

@@ -32,11 +32,11 @@ pub const LONGEST: usize = 200000;
 // The numbers of a pair in the check's result.
 const PAIR: usize = pairs::PAIR;
 
-// The numbers of the rooms that the check takes: for both tables two for each byte of a probe, for the memory one, and for
+// The numbers of the rooms that the check takes: for the memory one for each byte of a probe, for both tables two, and for
 // the result four for each pair of 64 replicates.
-const TABLES: usize = 512;
-
 const MEMORY: usize = 256;
+
+const TABLES: usize = 2 * MEMORY;
 
 const RESULT: usize = 16128;
 

@@ -49,15 +49,10 @@ pub demand2 : (x y : List ℕ) → 1 ≤ length x → Demand2 x y
 demand2 x y some =
     record { plainly = all-found x y some; remembered = same-positions (remembering x y) (plain x y) (visits x y some) ∙ all-found x y some }
 
--- OF THE CALLS: what two accepted searches of the same stream, at least as long as the probe, tell of each other
-pub record Agreed (x y d : List ℕ) (p q : Answer) (d₁ d₂ : List ℕ) : Type 0 where
-  pub total : q .occurrences ≡ length (occurrences x y)
-  pub same-total : p .occurrences ≡ q .occurrences
-  pub places : d₂ ≡ reported (occurrences x y) d
-  pub same-places : d₁ ≡ d₂
-  pub same-windows : q .windows ≡ p .windows
-  pub never-more : q .comparisons ≤ p .comparisons
-  pub bound : q .comparisons ≤ 2 * length y - length x + 1
+-- OF THE CALLS. An accepted search answers the numbers of its trace and reports its positions; neither names a work room, what it held or how it is laid out.
+pub record Answered (ws : List Window) (d : List ℕ) (r : Answer) (d′ : List ℕ) : Type 0 where
+  pub numbers : r ≡ answerOf 0 ws (length d)
+  pub places : d′ ≡ reported (positions ws) d
 
 -- an answer without a refusal has the numbers of its trace
 taken : {r : Answer} (k : ℕ) (ws : List Window) (n : ℕ) → r ≡ answerOf k ws n → r .refusal ≡ 0 → (k ≡ 0) × (r ≡ answerOf 0 ws n)
@@ -70,26 +65,51 @@ taken k ws n e z =
     shown zero = refl
     shown (suc k) = refl
 
+pub plain-answers : {x y t d : List ℕ} {r : Answer} {t′ d′ : List ℕ} → Plainly x y t d r t′ d′ → r .refusal ≡ 0 → Answered (plain x y) d r d′
+plain-answers {x} {y} {t} {d} u z =
+    record {
+      numbers = taken (refusalOf (length x) (length y) (length t) (length x)) (plain x y) (length d) (u .answer) z .1;
+      places = rw z at (u .places);
+    }
+
+pub remember-answers : {x y t e d : List ℕ} {r : Answer} {t′ e′ d′ : List ℕ} → Rememberingly x y t e d r t′ e′ d′ → r .refusal ≡ 0 → Answered (remembering x y) d r d′
+remember-answers {x} {y} {t} {e} {d} u z =
+    record {
+      numbers = taken (refusalOf (length x) (length y) (length t) (length e)) (remembering x y) (length d) (u .answer) z .1;
+      places = rw z at (u .places);
+    }
+
+-- What two accepted searches of the same stream, at least as long as the probe, tell of each other
+pub record Agreed (x y d : List ℕ) (p q : Answer) (d₁ d₂ : List ℕ) : Type 0 where
+  pub total : q .occurrences ≡ length (occurrences x y)
+  pub same-total : p .occurrences ≡ q .occurrences
+  pub places : d₂ ≡ reported (occurrences x y) d
+  pub same-places : d₁ ≡ d₂
+  pub same-windows : q .windows ≡ p .windows
+  pub never-more : q .comparisons ≤ p .comparisons
+  pub bound : q .comparisons ≤ 2 * length y - length x + 1
+
 pub agreed : {x y t e d : List ℕ} {p q : Answer} {t₁ d₁ t₂ e₂ d₂ : List ℕ} → Plainly x y t d p t₁ d₁ → Rememberingly x y t e d q t₂ e₂ d₂ → p .refusal ≡ 0
     → q .refusal ≡ 0 → length x ≤ length y → Agreed x y d p q d₁ d₂
 unfolding answerOf
 agreed {x} {y} {t} {e} {d} {p} {q} {t₁} {d₁} {t₂} {e₂} {d₂} u v zp zq fits =
-    let a = taken (refusalOf (length x) (length y) (length t) (length x)) (plain x y) (length d) (u .answer) zp in
-    let b = taken (refusalOf (length x) (length y) (length t) (length e)) (remembering x y) (length d) (v .answer) zq in
-    let some : 1 ≤ length x = accepted (length x) (length y) (length t) (length x) refl (a .0) .some in
+    let a = plain-answers u zp in
+    let b = remember-answers v zq in
+    let k = taken (refusalOf (length x) (length y) (length t) (length x)) (plain x y) (length d) (u .answer) zp .0 in
+    let some : 1 ≤ length x = accepted (length x) (length y) (length t) (length x) refl k .some in
     let D : Demand3 x y = demand3 x y some fits in
     let F : Demand2 x y = demand2 x y some in
     let w : length (remembering x y) ≡ length (plain x y) =
     sym (length-map (remembering x y) visit) ∙ ap length (D .same-windows) ∙ length-map (plain x y) visit in
-    let P : d₁ ≡ reported (occurrences x y) d = rw zp at (u .places) ∙ ap (λ (l : List ℕ). reported l d) (F .plainly) in
-    let Q : d₂ ≡ reported (occurrences x y) d = rw zq at (v .places) ∙ ap (λ (l : List ℕ). reported l d) (F .remembered) in
-    let total : q .occurrences ≡ length (occurrences x y) = ap (λ (r : Answer). r .occurrences) (b .1) ∙ ap length (F .remembered) in
+    let P : d₁ ≡ reported (occurrences x y) d = a .places ∙ ap (λ (l : List ℕ). reported l d) (F .plainly) in
+    let Q : d₂ ≡ reported (occurrences x y) d = b .places ∙ ap (λ (l : List ℕ). reported l d) (F .remembered) in
+    let total : q .occurrences ≡ length (occurrences x y) = ap (λ (r : Answer). r .occurrences) (b .numbers) ∙ ap length (F .remembered) in
     record {
       total = total;
-      same-total = ap (λ (r : Answer). r .occurrences) (a .1) ∙ ap length (F .plainly) ∙ sym total;
+      same-total = ap (λ (r : Answer). r .occurrences) (a .numbers) ∙ ap length (F .plainly) ∙ sym total;
       places = Q;
       same-places = P ∙ sym Q;
-      same-windows = ap (λ (r : Answer). r .windows) (b .1) ∙ w ∙ sym (ap (λ (r : Answer). r .windows) (a .1));
-      never-more = omega (arith, D .never-more, ap (λ (r : Answer). r .comparisons) (a .1), ap (λ (r : Answer). r .comparisons) (b .1));
-      bound = omega (arith, D .bound, ap (λ (r : Answer). r .comparisons) (b .1));
+      same-windows = ap (λ (r : Answer). r .windows) (b .numbers) ∙ w ∙ sym (ap (λ (r : Answer). r .windows) (a .numbers));
+      never-more = omega (arith, D .never-more, ap (λ (r : Answer). r .comparisons) (a .numbers), ap (λ (r : Answer). r .comparisons) (b .numbers));
+      bound = omega (arith, D .bound, ap (λ (r : Answer). r .comparisons) (b .numbers));
     }

@@ -30,7 +30,7 @@ mod suffixes; // suffixes.rt: the suffix table
 pub const LONGEST: usize = 4096;
 
 // The numbers that both tables of such a probe take: two for each byte.
-const PAIRED: usize = 8192;
+const PAIRED: usize = 2 * LONGEST;
 
 // The refusal numbers; 0 says that nothing was refused.
 pub const PROBE_EMPTY: u32 = 1;
