@@ -1,5 +1,5 @@
 -- The refusals that the check can meet: those of the log test, then 20, 4 and 5. Assumes nothing.
-use mathlib.Core.Bool.{cond, not, _&&_, _||_}
+use mathlib.Core.Bool.{Bool, cond, not, _&&_, _||_}
 use Prim.Native.Nat.{ℕ, _*_, _-_}
 use lib.Dec.{eqb, leb, ltb}
 use Rattle.drawlog.specs.declared.Cause.{Cause}
@@ -18,12 +18,15 @@ needed c = 4 * (c * (c - 1))
 abbrev pub tableSize : ℕ → ℕ
 tableSize p = 2 * probeSize p
 
--- the first of 20, 4 and 5 that holds, of probes of p draws, a room of t numbers for both tables, a memory room of e entries, a result room of n, and
--- c replicates; 0 where there is none
+-- a work room is too short for it: that of t numbers for both tables, or the memory room of e entries
+abbrev pub tooShort : ℕ → ℕ → ℕ → Bool
+tooShort p t e = ltb t (tableSize p) || ltb e (probeSize p)
+
+-- the first of 20, 4 and 5 that holds, of probes of p draws, these work rooms, a result room of n numbers, and c replicates; 0 where there is none
 unfoldable pub ownCause : ℕ → ℕ → ℕ → ℕ → ℕ → ℕ
 ownCause p t e n c =
     cond (not (leb 1 p && leb p longest)) 20
-    (cond (ltb t (tableSize p) || ltb e (probeSize p)) 4
+    (cond (tooShort p t e) 4
     (cond (ltb n (needed c)) 5
     0))
 

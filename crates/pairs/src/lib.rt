@@ -18,7 +18,7 @@ ghost use lib.ListN.{length};
 ghost use Rattle.drawlog.specs.Log.{most};
 ghost use Rattle.drawlog.specs.Promise.{testedOf};
 ghost use Rattle.pairs.specs.Check.{probeSize, probed, pairWith, pairsWith, pairsOf, pairs, unprobed};
-ghost use Rattle.pairs.specs.Refusal.{longest, needed, ownCause, causeOf};
+ghost use Rattle.pairs.specs.Refusal.{longest, needed, tooShort, ownCause, causeOf};
 ghost use Rattle.pairs.specs.Promise.{step, Checking};
 ghost use Rattle.basics.specs.laws.Inlaid.{Inlaid};
 ghost use Rattle.pairs.specs.Inside.{Worked, Ready, Found};
@@ -121,19 +121,29 @@ fn own_cause(count: u32, p: u32, t: usize, e: usize, n: usize) -> u32
     if LONGEST < p {
         return BAD_PROBE;
     }
-    let bytes = probe_size(p);
-    let paired = 2 * bytes;
+    let short = too_short(p, t, e);
     let numbers = needed(count);
-    if t < paired {
-        return ROOM_SHORT;
-    }
-    if e < bytes {
+    if short {
         return ROOM_SHORT;
     }
     if n < numbers {
         return RESULT_SHORT;
     }
     0
+}
+
+// Whether a work room is too short for probes of p draws: that of t numbers for both tables, or the memory room of e
+// entries.
+fn too_short(p: u32, t: usize, e: usize) -> bool
+    requires { ⌜ p ≤ longest ⌝ }
+    ensures { λ r. ⌜ r ≡ tooShort p t e ⌝ }
+{
+    let bytes = probe_size(p);
+    let paired = 2 * bytes;
+    if t < paired {
+        return true;
+    }
+    e < bytes
 }
 
 // The bytes of a probe of p draws.

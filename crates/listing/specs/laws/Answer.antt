@@ -21,7 +21,7 @@ use Rattle.pairs.specs.Refusal.{ownCause}
 use Rattle.pairs.specs.Promise.{step, cause, Checking}
 use Rattle.pairs.specs.laws.Promise.{checked-refusal, checked-entry, checked-numbers}
 use Rattle.pairs.specs.laws.Check.{length-numbers, pairs-few, tested-few, tested-count}
-use Rattle.pairs.specs.laws.Refusal.{refuses-none, cause-log, cause-own}
+use Rattle.pairs.specs.laws.Refusal.{long-enough, refuses-none, cause-log, cause-own}
 use Rattle.listing.specs.Listing.{draws, refusedLine, listing}
 use Rattle.listing.specs.Inside.{Holds}
 use Rattle.listing.specs.laws.Text.{listing-refused}
@@ -42,8 +42,7 @@ module _ (s t e d : List ℕ) {r : Checked} {t′ e′ d′ : List ℕ} (told : 
   own-none : ownCause draws (length t) (length e) (length d) (testedOf s .count) ≡ 0
   own-none =
       refuses-none draws (length t) (length e) (length d) (testedOf s .count) (omega arith) (omega arith)
-      (omega (arith, lt))
-      (omega (arith, le))
+      (long-enough draws (length t) (length e) (omega (arith, lt)) (omega (arith, le)))
       (omega (arith, ld, enough (testedOf s .count) (tested-few s)))
 
   cause-is : cause s draws t e d .refusal ≡ testedOf s .refusal

@@ -1,7 +1,7 @@
 -- The causes of refusal, one by one. Assumes nothing.
 use mathlib.Core.Path.{_≡_, refl, sym, ap, _∙_}
 use mathlib.Core.Logic.{⊎-elim}
-use mathlib.Core.Bool.{Bool, true, false, cond, not, _&&_, _||_}
+use mathlib.Core.Bool.{Bool, true, false, cond, not, _&&_, _||_, true≢false}
 use Prim.Native.Nat.{ℕ, _≤_, _<_}
 use native.Mathlib.Omega.{arith}
 use borrow.Author.Tests.{eq-eqb, ne-eqb, le-leb, lt-leb, lt-ltb, le-ltb, leb-true, ltb-false}
@@ -10,7 +10,25 @@ use Rattle.basics.specs.laws.Tests.{equal-or-not}
 use Rattle.drawlog.specs.declared.Cause.{Cause}
 use Rattle.drawlog.specs.declared.Tested.{Tested}
 use Rattle.pairs.specs.Check.{probeSize}
-use Rattle.pairs.specs.Refusal.{longest, needed, tableSize, ownCause, causeOf}
+use Rattle.pairs.specs.Refusal.{longest, needed, tableSize, tooShort, ownCause, causeOf}
+
+-- WORK ROOMS
+module _ (p t e : ℕ) where
+  pub short-tables : t < tableSize p → tooShort p t e ≡ true
+  short-tables h = rw (lt-ltb t (tableSize p) h)
+
+  pub short-memory : tableSize p ≤ t → tooShort p t e ≡ ltb e (probeSize p)
+  short-memory h = rw (le-ltb t (tableSize p) h)
+
+  pub long-enough : tableSize p ≤ t → probeSize p ≤ e → tooShort p t e ≡ false
+  long-enough h i = short-memory h ∙ le-ltb e (probeSize p) i
+
+  enough : tooShort p t e ≡ false → (tableSize p ≤ t) × (probeSize p ≤ e)
+  enough q = go (ltb t (tableSize p)) refl q
+    where
+      go : (b : Bool) → ltb t (tableSize p) ≡ b → (b || ltb e (probeSize p)) ≡ false → (tableSize p ≤ t) × (probeSize p ≤ e)
+      go true h q = absurd (true≢false q)
+      go false h q = (ltb-false t (tableSize p) h, ltb-false e (probeSize p) q)
 
 module _ (p t e n c : ℕ) where
   pub refuses-low : p < 1 → ownCause p t e n c ≡ 20
@@ -21,22 +39,17 @@ module _ (p t e n c : ℕ) where
   unfolding ownCause
   refuses-high a b = rw (le-leb 1 p a, lt-leb p longest b)
 
-  module _ (a : 1 ≤ p) (b : p ≤ longest) where
-    pub refuses-tables : t < tableSize p → ownCause p t e n c ≡ 4
-    unfolding ownCause
-    refuses-tables h = rw (le-leb 1 p a, le-leb p longest b, lt-ltb t (tableSize p) h)
+  pub refuses-work : 1 ≤ p → p ≤ longest → tooShort p t e ≡ true → ownCause p t e n c ≡ 4
+  unfolding ownCause
+  refuses-work a b h = rw (le-leb 1 p a, le-leb p longest b, h)
 
-    pub refuses-memory : tableSize p ≤ t → e < probeSize p → ownCause p t e n c ≡ 4
-    unfolding ownCause
-    refuses-memory h i = rw (le-leb 1 p a, le-leb p longest b, le-ltb t (tableSize p) h, lt-ltb e (probeSize p) i)
+  pub refuses-result : 1 ≤ p → p ≤ longest → tooShort p t e ≡ false → n < needed c → ownCause p t e n c ≡ 5
+  unfolding ownCause
+  refuses-result a b h k = rw (le-leb 1 p a, le-leb p longest b, h, lt-ltb n (needed c) k)
 
-    pub refuses-result : tableSize p ≤ t → probeSize p ≤ e → n < needed c → ownCause p t e n c ≡ 5
-    unfolding ownCause
-    refuses-result h i k = rw (le-leb 1 p a, le-leb p longest b, le-ltb t (tableSize p) h, le-ltb e (probeSize p) i, lt-ltb n (needed c) k)
-
-    pub refuses-none : tableSize p ≤ t → probeSize p ≤ e → needed c ≤ n → ownCause p t e n c ≡ 0
-    unfolding ownCause
-    refuses-none h i k = rw (le-leb 1 p a, le-leb p longest b, le-ltb t (tableSize p) h, le-ltb e (probeSize p) i, le-ltb n (needed c) k)
+  pub refuses-none : 1 ≤ p → p ≤ longest → tooShort p t e ≡ false → needed c ≤ n → ownCause p t e n c ≡ 0
+  unfolding ownCause
+  refuses-none a b h k = rw (le-leb 1 p a, le-leb p longest b, h, le-ltb n (needed c) k)
 
 -- what none of them refuses
 pub record Allowed (p t e n c : ℕ) : Type 0 where
@@ -48,23 +61,17 @@ pub record Allowed (p t e n c : ℕ) : Type 0 where
 
 allowed : (p t e n c : ℕ) → ownCause p t e n c ≡ 0 → Allowed p t e n c
 unfolding ownCause
-allowed p t e n c q = go (leb 1 p) refl (leb p longest) refl (ltb t (tableSize p)) refl (ltb e (probeSize p)) refl (ltb n (needed c)) refl q
+allowed p t e n c q = go (leb 1 p) refl (leb p longest) refl (tooShort p t e) refl (ltb n (needed c)) refl q
   where
-    go : (f : Bool) → leb 1 p ≡ f → (g : Bool) → leb p longest ≡ g → (h : Bool) → ltb t (tableSize p) ≡ h → (i : Bool) → ltb e (probeSize p) ≡ i
-        → (k : Bool) → ltb n (needed c) ≡ k → _≡_ {A = ℕ} (cond (not (f && g)) 20 (cond (h || i) 4 (cond k 5 0))) 0 → Allowed p t e n c
-    go false ef g eg h eh i ei k ek q = absurd (omega arith)
-    go true ef false eg h eh i ei k ek q = absurd (omega arith)
-    go true ef true eg true eh i ei k ek q = absurd (omega arith)
-    go true ef true eg false eh true ei k ek q = absurd (omega arith)
-    go true ef true eg false eh false ei true ek q = absurd (omega arith)
-    go true ef true eg false eh false ei false ek q =
-        record {
-          some = leb-true 1 p ef;
-          short = leb-true p longest eg;
-          tables = ltb-false t (tableSize p) eh;
-          memory = ltb-false e (probeSize p) ei;
-          result = ltb-false n (needed c) ek;
-        }
+    go : (f : Bool) → leb 1 p ≡ f → (g : Bool) → leb p longest ≡ g → (h : Bool) → tooShort p t e ≡ h → (k : Bool) → ltb n (needed c) ≡ k
+        → _≡_ {A = ℕ} (cond (not (f && g)) 20 (cond h 4 (cond k 5 0))) 0 → Allowed p t e n c
+    go false ef g eg h eh k ek q = absurd (omega arith)
+    go true ef false eg h eh k ek q = absurd (omega arith)
+    go true ef true eg true eh k ek q = absurd (omega arith)
+    go true ef true eg false eh true ek q = absurd (omega arith)
+    go true ef true eg false eh false ek q =
+        let w = enough p t e eh in
+        record { some = leb-true 1 p ef; short = leb-true p longest eg; tables = w .0; memory = w .1; result = ltb-false n (needed c) ek }
 
 -- WITH THE LOG TEST before them
 module _ (r : Tested) (p t e n : ℕ) where
