@@ -4,11 +4,11 @@ use mathlib.Core.List.{List, [], _∷_, _++_, append-assoc}
 use Prim.Native.Nat.{ℕ, zero, suc, _+_, _-_, _≤_, _<_, min}
 use native.Mathlib.Numerals.{add-one}
 use native.Mathlib.Omega.{arith}
-use lib.ListN.{length, getD, drop, set, replicate, length-replicate, length-append, length-drop, List·getD-append}
+use lib.ListN.{length, getD, drop, set, replicate, length-replicate, getD-replicate, length-append, length-drop, List·getD-append}
 use lib.Seq.{drop-cons, drop-at, drop-drop, set-at, set-append-left}
 use Rattle.basics.specs.Lists.{at, table}
 use Rattle.basics.specs.Rooms.{front, roomAfter, Begins}
-use Rattle.basics.specs.laws.Lists.{length-table, at-table, table-ext, set-table}
+use Rattle.basics.specs.laws.Lists.{length-table, at-table, table-is, table-ext, set-table}
 
 -- a refusal leaves the room
 pub room-kept : (r : ℕ) (t d : List ℕ) → (r ≡ 0 → ⊥) → roomAfter r t d ≡ d
@@ -97,6 +97,11 @@ filled-ext {f} {g} {d₀} {d} {i} p h = record { is = p .is ∙ ap (λ (t : List
 pub filled-at : {f : ℕ → ℕ} {d₀ d : List ℕ} {i : ℕ} → Filled f d₀ i d → (k : ℕ) → k < i → at d k ≡ f k
 filled-at {f} {d₀} {d} {i} g k l =
     ap (λ (r : List ℕ). at r k) (g .is) ∙ List·getD-append (table i f) (drop (length (table i f)) d₀) 0 k (omega (arith, length-table i f)) ∙ at-table i f k l
+
+-- a room filled with zeros
+pub filled-zeros : {d₀ d : List ℕ} {i : ℕ} (n : ℕ) → Filled (λ k. 0) d₀ i d → i ≡ n → d ≡ front (replicate n 0) d₀
+filled-zeros {d₀} n g e =
+    filled-all g e ∙ ap (λ (t : List ℕ). front t d₀) (sym (table-is n (λ k. 0) (replicate n 0) (length-replicate n 0) (λ k l. getD-replicate n k 0 0 l)))
 
 -- one entry is written anew
 pub filled-set : {f g : ℕ → ℕ} {d₀ d : List ℕ} {i b v : ℕ} → Filled f d₀ i d → b < i → g b ≡ v → ((k : ℕ) → k < i → (k ≡ b → ⊥) → f k ≡ g k)
