@@ -7,6 +7,8 @@ pub mod Search
 pub mod Causes
 -- equal lists, tables and stretches
 pub mod Lists
+-- the longest common ending of two lists
+pub mod Endings
 -- rooms after a call, and while a loop fills them
 pub mod Rooms
 -- lists laid into a room, one after another

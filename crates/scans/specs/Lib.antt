@@ -9,6 +9,8 @@ pub mod Plain
 pub mod Remember
 -- where the probe occurs, without any scan; and the multiples of a step among these places
 pub mod Occurrences
+-- how many trailing bytes of the probe equal the stream, and the window of a trace where most do
+pub mod Closeness
 -- which refusal, by the causes
 pub mod Refusal
 -- what each public call promises, and that it determines the outcome

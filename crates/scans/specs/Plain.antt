@@ -26,7 +26,7 @@ unfoldable pub plainScan : List ℕ → List ℕ → ℕ → ℕ → List Window
 plainScan x y zero j = []
 plainScan x y (suc f) j =
     elim (leb (j + length x) (length y)) [
-      | true ↦ window j (plainPass x y j) ∷ plainScan x y f (j + move x y j (plainPass x y j .end))
+      | true ↦ window (length x) j (plainPass x y j) ∷ plainScan x y f (j + move x y j (plainPass x y j .end))
       | false ↦ []
     ]
 

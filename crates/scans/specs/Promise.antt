@@ -11,10 +11,11 @@ use Rattle.scans.specs.declared.Tally.{Tally}
 use Rattle.scans.specs.Trace.{Window, comparisons, positions}
 use Rattle.scans.specs.Plain.{plain}
 use Rattle.scans.specs.Remember.{remembering}
+use Rattle.scans.specs.Closeness.{closest, closestAt}
 use Rattle.scans.specs.Occurrences.{occurrences, multiples, firstOf}
 use Rattle.scans.specs.Refusal.{refusalOf}
 
--- the four numbers of a search with this refusal (0: none), trace and number of entries in the position room
+-- the six numbers of a search with this refusal (0: none), trace and number of entries in the position room
 unfoldable pub answerOf : ℕ → List Window → ℕ → Answer
 answerOf zero ws n =
     record {
@@ -23,8 +24,11 @@ answerOf zero ws n =
       written = min (length (positions ws)) n;
       windows = length ws;
       comparisons = comparisons ws;
+      closest = closest ws;
+      «closest_at» = closestAt ws;
     }
-answerOf (suc r) ws n = record { refusal = suc r; occurrences = 0; written = 0; windows = 0; comparisons = 0 }
+answerOf (suc r) ws n =
+    record { refusal = suc r; occurrences = 0; written = 0; windows = 0; comparisons = 0; closest = 0; «closest_at» = 0 }
 
 -- the position room d after the positions ps: the first of them as far as it reaches, and the rest as it was
 abbrev pub reported : List ℕ → List ℕ → List ℕ

@@ -58,7 +58,7 @@ unfoldable pub memScan : List ℕ → List ℕ → (ℕ → ℕ) → ℕ → ℕ
 memScan x y R zero j = []
 memScan x y R (suc f) j =
     elim (leb (j + length x) (length y)) [
-      | true ↦ window j (memPass x y R j) ∷ memScan x y (after x y R j) f (j + move x y j (memPass x y R j .end))
+      | true ↦ window (length x) j (memPass x y R j) ∷ memScan x y (after x y R j) f (j + move x y j (memPass x y R j .end))
       | false ↦ []
     ]
 

@@ -5,5 +5,7 @@ pub mod Slots
 pub mod Window
 -- what is counted of the occurrences while a scan runs
 pub mod Hits
+-- the closest window while a scan runs
+pub mod Closest
 -- what a whole search gives, before it is put into an answer
 pub mod Search

@@ -10,6 +10,8 @@ pub mod Free
 pub mod Visits
 -- every occurrence is reported, and nothing else
 pub mod Occurrences
+-- each window tells the true number of equal bytes; the closest window
+pub mod Closeness
 -- THE CODE'S LOOPS: what they keep while they run.
 pub mod Hits
 pub mod Going

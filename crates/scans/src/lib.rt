@@ -28,12 +28,14 @@ ghost use Rattle.scans.specs.Refusal.{refusalOf};
 ghost use Rattle.scans.specs.Promise.{Plainly, Rememberingly, Aligning};
 ghost use Rattle.scans.specs.inside.Search.{refusedBy, answerBy, tallyBy, Searching, Preparing};
 
+mod closeness; // closeness.rt: the closest window
 mod hits; // hits.rt: the occurrences, noted and counted
 mod loops; // loops.rt: from window to window
 mod memory; // memory.rt: the remembered lengths
 mod moves; // moves.rt: from one window to the next
 mod windows; // windows.rt: one window, where bytes are compared
 
+use closeness::Closest;
 use loops::Run;
 
 // The most bytes that a probe, and that a stream, may have.
@@ -57,6 +59,8 @@ pub struct Answer {
     pub written: u64,
     pub windows: u64,
     pub comparisons: u64,
+    pub closest: u64,
+    pub closest_at: u64,
 }
 
 // The occurrences at multiples of a step: their number, and the first of them. On refusal, and where there is none, 0.
@@ -195,22 +199,26 @@ fn refused(refusal: u32) -> Searched
         hits: 0,
         windows: 0,
         comparisons: 0,
+        closest: Closest { equal: 0, at: 0 },
     };
     Searched { refusal, run }
 }
 
-// The four numbers of a search whose position room has n entries.
+// The six numbers of a search whose position room has n entries.
 fn answer_of(s: Searched, n: usize) -> Answer
     ensures { λ r. ⌜ r ≡ answerBy s n ⌝ }
 {
     let run = s.run;
     let written = basics::smaller(run.hits, n);
+    let closest = run.closest;
     Answer {
         refusal: s.refusal,
         occurrences: run.hits as u64,
         written: written as u64,
         windows: run.windows,
         comparisons: run.comparisons,
+        closest: closest.equal as u64,
+        closest_at: closest.at as u64,
     }
 }
 

@@ -7,17 +7,20 @@ ghost use Rattle.scans.specs.Remember.{remembering};
 ghost use Rattle.scans.specs.Promise.{reported};
 ghost use Rattle.scans.specs.inside.Window.{Sizes, Moving, Recalling};
 ghost use Rattle.scans.specs.inside.Hits.{placesOf, runOf};
+use crate::closeness;
+use crate::closeness::Closest;
 use crate::hits;
 use crate::memory;
 use crate::memory::Place;
 use crate::moves;
 use crate::windows;
 
-// What a whole scan gives: how many places it noted, its windows and its comparisons.
+// What a whole scan gives: how many places it noted, its windows, its comparisons, and the closest window.
 pub(crate) struct Run {
     pub hits: usize,
     pub windows: u64,
     pub comparisons: u64,
+    pub closest: Closest,
 }
 
 // The plain scan, over tables that are ready; it notes every place.
@@ -31,18 +34,21 @@ pub(crate) fn plainly(x: &[u8], y: &[u8], tables: &[u16], occ: &[u32; 256], room
     let mut hits = 0;
     let mut visited: u64 = 0;
     let mut count: u64 = 0;
+    let mut closest = Closest { equal: 0, at: 0 };
     while j + x.len() <= y.len() {
         let w = windows::plainly(x, y, j, count);
         let left = w.left;
         count = w.count;
         visited += 1;
         hits = hits::note(room, hits, 1, j, left);
+        closest = closeness::closer(closest, x.len() - left, j);
         j += moves::by(x, y, tables, occ, j, left);
     }
     Run {
         hits,
         windows: visited,
         comparisons: count,
+        closest,
     }
 }
 
@@ -95,6 +101,7 @@ fn through(
     let mut hits = 0;
     let mut visited: u64 = 0;
     let mut count: u64 = 0;
+    let mut closest = Closest { equal: 0, at: 0 };
     while p.at + m <= y.len() {
         let j = p.at;
         visited += 1;
@@ -108,6 +115,7 @@ fn through(
             let d = moves::by(x, y, tables, occ, j, left);
             let next = memory::on(m, p, d);
             hits = hits::note(room, hits, step, j, left);
+            closest = closeness::closer(closest, m - left, j);
             top = memory::keep(mem, m, p, top, w.kept);
             p = next;
         } else {
@@ -120,5 +128,6 @@ fn through(
         hits,
         windows: visited,
         comparisons: count,
+        closest,
     }
 }

@@ -3,8 +3,8 @@ use mathlib.Core.Path.{_≡_, refl, sym}
 use mathlib.Core.Logic.{_⊎_, inl, inr}
 use mathlib.Core.Bool.{Bool, true, false, _&&_, true≢false}
 use Prim.Native.Nat.{ℕ, _≤_, _<_}
-use borrow.Author.Tests.{eqb-true, eqb-false, leb-true, leb-false}
-use lib.Dec.{eqb, leb}
+use borrow.Author.Tests.{eqb-true, eqb-false, leb-true, leb-false, ltb-true, ltb-false}
+use lib.Dec.{eqb, leb, ltb}
 
 pub is-false : (b : Bool) → (b ≡ true → ⊥) → b ≡ false
 is-false true h = absurd (h refl)
@@ -31,6 +31,9 @@ eqb-case u v P hit miss = bool-case (eqb u v) P (λ e. hit (eqb-true u v e)) (λ
 
 pub leb-case {ℓ} : (u v : ℕ) (P : Bool → Type ℓ) → (u ≤ v → P true) → (v < u → P false) → P (leb u v)
 leb-case u v P hit miss = bool-case (leb u v) P (λ e. hit (leb-true u v e)) (λ e. miss (leb-false u v e))
+
+pub ltb-case {ℓ} : (u v : ℕ) (P : Bool → Type ℓ) → (u < v → P true) → (v ≤ u → P false) → P (ltb u v)
+ltb-case u v P hit miss = bool-case (ltb u v) P (λ e. hit (ltb-true u v e)) (λ e. miss (ltb-false u v e))
 
 pub equal-or-not : (u v : ℕ) → (u ≡ v) ⊎ (u ≡ v → ⊥)
 equal-or-not u v = eqb-case u v (λ t. (u ≡ v) ⊎ (u ≡ v → ⊥)) (λ e. inl e) (λ n. inr n)

@@ -9,13 +9,15 @@ smaller-requires c κs = search needs
 
 returns : tie.Need-returns
 returns c =
-    let s = c .before .before .args .s in
+    let s = c .before .before .before .args .s in
     λ k. record {
       refusal = s .refusal;
       occurrences = s .run .hits;
-      written = c .smaller .ensures k;
+      written = c .before .smaller .ensures k;
       windows = s .run .windows;
       comparisons = s .run .comparisons;
+      closest = s .run .closest .equal;
+      «closest_at» = s .run .closest .at;
     }
 
 pub answer-of-spec : {M : Type 1} → statement M

@@ -1,4 +1,4 @@
--- `scans::remember` meets its contract: the four numbers of the search.
+-- `scans::remember` meets its contract: the six numbers of the search.
 -- Assumes nothing.
 use mathlib.Core.Path.{ap, _∙_}
 use borrow.Author.Needs.{needs}

@@ -6,6 +6,7 @@ use lib.ListN.{length, set}
 use Rattle.scans.specs.declared.loops.Run.{Run}
 use Rattle.scans.specs.Trace.{End, matched, stopped, Window, comparisons, positions}
 use Rattle.scans.specs.Occurrences.{onStep, multiples}
+use Rattle.scans.specs.inside.Closest.{closestOf}
 
 -- a window at j that ended so: how many places are noted after it, of which h were before, and the position room r; only places at multiples of the step d are
 abbrev pub countedBy : ℕ → ℕ → End → ℕ → ℕ
@@ -22,4 +23,4 @@ placesOf d ws = multiples d (positions ws)
 
 -- the numbers of a whole trace
 abbrev pub runOf : ℕ → List Window → Run
-runOf d ws = record { hits = length (placesOf d ws); windows = length ws; comparisons = comparisons ws }
+runOf d ws = record { hits = length (placesOf d ws); windows = length ws; comparisons = comparisons ws; closest = closestOf ws }

@@ -18,7 +18,7 @@ use Rattle.scans.specs.inside.Hits.{placesOf, runOf}
 
 -- a refusal, beside which every number is 0
 abbrev pub refusedBy : ℕ → Searched
-refusedBy r = record { refusal = r; run = record { hits = 0; windows = 0; comparisons = 0 } }
+refusedBy r = record { refusal = r; run = record { hits = 0; windows = 0; comparisons = 0; closest = record { equal = 0; at = 0 } } }
 
 -- a search with this refusal (0: none), step and trace
 abbrev pub searchedOf : ℕ → ℕ → List Window → Searched
@@ -34,6 +34,8 @@ answerBy s n =
       written = min (s .run .hits) n;
       windows = s .run .windows;
       comparisons = s .run .comparisons;
+      closest = s .run .closest .equal;
+      «closest_at» = s .run .closest .at;
     }
 
 abbrev pub tallyBy : Searched → ℕ → Tally

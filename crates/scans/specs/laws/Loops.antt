@@ -1,7 +1,7 @@
 -- What the two loops keep from window to window. Assumes nothing.
 use mathlib.Core.Path.{_≡_, refl, ap, _∙_}
 use mathlib.Core.List.{List, [], _++_}
-use Prim.Native.Nat.{ℕ, zero, suc, _+_, _*_, _≤_, _<_, zero-le}
+use Prim.Native.Nat.{ℕ, zero, suc, _+_, _-_, _*_, _≤_, _<_, zero-le}
 use native.Mathlib.Omega.{arith}
 use lib.ListN.{length, drop, replicate, length-append}
 use Rattle.basics.specs.Lists.{at}
@@ -9,7 +9,8 @@ use Rattle.basics.specs.Rooms.{front}
 use Rattle.scans.specs.declared.windows.Seen.{Seen}
 use Rattle.scans.specs.declared.windows.Passed.{Passed}
 use Rattle.scans.specs.declared.memory.Place.{Place}
-use Rattle.scans.specs.Trace.{End, matched, stopped, Pass, found}
+use Rattle.scans.specs.declared.closeness.Closest.{Closest}
+use Rattle.scans.specs.Trace.{End, matched, stopped, Pass, equalBy, found}
 use Rattle.scans.specs.Move.{move}
 use Rattle.scans.specs.Plain.{plainPass, plainScan, plain}
 use Rattle.scans.specs.Remember.{memPass, after, memScan, remembering}
@@ -18,7 +19,9 @@ use Rattle.scans.specs.inside.Window.{leftOf, endOf, seenOf, passedOf, S
 use Rattle.scans.specs.laws.Plain.{plain-comps, plain-step}
 use Rattle.scans.specs.laws.Remember.{mem-ext, mem-comps, mem-step}
 use Rattle.scans.specs.laws.Move.{move-pos, move-le}
-use Rattle.scans.specs.laws.Going.{Going, going-none, going-more}
+use Rattle.scans.specs.inside.Closest.{closerBy}
+use Rattle.scans.specs.laws.Closeness.{plain-start, mem-start}
+use Rattle.scans.specs.laws.Going.{none, Going, going-none, going-more}
 use Rattle.scans.specs.laws.Hits.{Noted}
 use Rattle.scans.specs.laws.Slots.{place-first, place-at, place-again, cleared}
 
@@ -46,18 +49,22 @@ counted-next {x} {y} {j} {ps} e z g l s k q u =
       count = omega (arith, g .count, z .short);
     }
 
--- the plain scan at its window j: the positions ps are found, w windows and c comparisons are made
-pub record PlainAt (x y : List ℕ) (j : ℕ) (ps : List ℕ) (w c : ℕ) : Type 0 where
+-- the plain scan at its window j: the positions ps are found, w windows and c comparisons are made, and b is the closest window
+pub record PlainAt (x y : List ℕ) (j : ℕ) (ps : List ℕ) (w c : ℕ) (b : Closest) : Type 0 where
   pub counted : Counted x y j ps w c
   pub fuel : ℕ
   pub enough : length y < fuel + j
-  pub going : Going (plain x y) (plainScan x y fuel j) ps w c
+  pub going : Going (plain x y) (plainScan x y fuel j) ps w c b
 
-pub plain-first : (x y : List ℕ) → PlainAt x y 0 [] 0 0
+pub plain-first : (x y : List ℕ) → PlainAt x y 0 [] 0 0 none
 unfolding plain
-plain-first x y = record { counted = counted-none x y; fuel = suc (length y); enough = omega arith; going = going-none (plain x y) }
+plain-first x y = record { counted = counted-none x y; fuel = suc (length y); enough = omega arith; going = going-none (plain x y) (plain-start x y (suc (length y))) }
 
--- what a window function gives: its end
+-- what a window function gives: its end, and how many bytes are equal
+equal-left : (m left : ℕ) → m - left ≡ equalBy m (endOf left)
+equal-left m zero = omega arith
+equal-left m (suc i) = omega arith
+
 end-left : (e : End) → endOf (leftOf e) ≡ e
 end-left matched = refl
 end-left (stopped i) = refl
@@ -65,9 +72,10 @@ end-left (stopped i) = refl
 seen-end : (p : Pass) (c : ℕ) {r : Seen} → r ≡ seenOf p c → endOf (r .left) ≡ p .end
 seen-end p c q = ap (λ (r : Seen). endOf (r .left)) q ∙ end-left (p .end)
 
-pub plain-next : {x y : List ℕ} {j : ℕ} {ps : List ℕ} {w c : ℕ} {r : Seen} {s : ℕ} → Sizes x y → PlainAt x y j ps w c → j + length x ≤ length y
-    → r ≡ seenOf (plainPass x y j) c → s ≡ move x y j (endOf (r .left)) → PlainAt x y (j + s) (ps ++ found j (endOf (r .left)) []) (w + 1) (r .count)
-plain-next {x} {y} {j} {ps} {w} {c} {r} {s} z g l q v = rw e (go (g .fuel) (g .enough) (g .going))
+pub plain-next : {x y : List ℕ} {j : ℕ} {ps : List ℕ} {w c : ℕ} {b b′ : Closest} {r : Seen} {s : ℕ} → Sizes x y → PlainAt x y j ps w c b → j + length x ≤ length y
+    → r ≡ seenOf (plainPass x y j) c → s ≡ move x y j (endOf (r .left)) → b′ ≡ closerBy b (length x - r .left) j
+    → PlainAt x y (j + s) (ps ++ found j (endOf (r .left)) []) (w + 1) (r .count) b′
+plain-next {x} {y} {j} {ps} {w} {c} {b} {b′} {r} {s} z g l q v near = rw e (go (g .fuel) (g .enough) (g .going))
   where
     p : Pass
     p = plainPass x y j
@@ -81,24 +89,27 @@ plain-next {x} {y} {j} {ps} {w} {c} {r} {s} z g l q v = rw e (go (g .fuel) (g .e
     k : r .count ≡ c + p .comps
     k = ap (λ (r : Seen). r .count) q
 
-    go : (f : ℕ) → length y < f + j → Going (plain x y) (plainScan x y f j) ps w c → PlainAt x y (j + s) (ps ++ found j (p .end) []) (w + 1) (r .count)
+    n : b′ ≡ closerBy b (equalBy (length x) (p .end)) j
+    n = near ∙ ap (λ (k : ℕ). closerBy b k j) (equal-left (length x) (r .left) ∙ ap (equalBy (length x)) e)
+
+    go : (f : ℕ) → length y < f + j → Going (plain x y) (plainScan x y f j) ps w c b → PlainAt x y (j + s) (ps ++ found j (p .end) []) (w + 1) (r .count) b′
     go zero u o = absurd (omega arith)
     go (suc f) u o =
         record {
           counted = rw k (counted-next (p .end) z (g .counted) l s (p .comps) t (plain-comps x y j (length x)));
           fuel = f;
           enough = omega (arith, t, move-pos x y j (p .end));
-          going = rw t (going-more j p o (plain-step x y f j l) k);
+          going = rw t (going-more (length x) j p o (plain-step x y f j l) k n);
         }
 
 -- THE PLAIN LOOP'S INVARIANT, with the position room
-pub record PlainLoop (x y d₀ d : List ℕ) (j h w c : ℕ) : Type 0 where
+pub record PlainLoop (x y d₀ d : List ℕ) (j h w c : ℕ) (b : Closest) : Type 0 where
   pub ps : List ℕ
-  pub at : PlainAt x y j ps w c
+  pub at : PlainAt x y j ps w c b
   pub noted : Noted 1 ps d₀ d h
 
--- The remembering scan at its window p: the positions ps are found, w windows and c comparisons are made, and the memory room is mem, which says what R says from the window on
-pub record MemAt (x y mem₀ mem : List ℕ) (p : Place) (top : ℕ) (ps : List ℕ) (w c : ℕ) : Type 0 where
+-- The remembering scan at its window p: the positions ps are found, w windows and c comparisons are made, b is the closest window, and the memory room is mem, which says what R says from the window on
+pub record MemAt (x y mem₀ mem : List ℕ) (p : Place) (top : ℕ) (ps : List ℕ) (w c : ℕ) (b : Closest) : Type 0 where
   pub counted : Counted x y (p .at) ps w c
   pub place : Stands (length x) (p .at) p
   pub under : top < p .at + length x
@@ -108,9 +119,9 @@ pub record MemAt (x y mem₀ mem : List ℕ) (p : Place) (top : ℕ) (ps : List 
   pub fuel : ℕ
   pub enough : length y < fuel + p .at
   pub memory : Memory (length x) mem (p .at) top R
-  pub going : Going (remembering x y) (memScan x y R fuel (p .at)) ps w c
+  pub going : Going (remembering x y) (memScan x y R fuel (p .at)) ps w c b
 
-pub mem-first : (x y mem : List ℕ) → Sizes x y → (t : List ℕ) → mem ≡ front (replicate (length x) 0) t → MemAt x y mem mem (record { at = 0; slot = 0 }) 0 [] 0 0
+pub mem-first : (x y mem : List ℕ) → Sizes x y → (t : List ℕ) → mem ≡ front (replicate (length x) 0) t → MemAt x y mem mem (record { at = 0; slot = 0 }) 0 [] 0 0 none
 unfolding remembering
 mem-first x y mem z t e =
     record {
@@ -123,7 +134,7 @@ mem-first x y mem z t e =
       fuel = suc (length y);
       enough = omega arith;
       memory = cleared (length x) mem t (z .some) e;
-      going = going-none (remembering x y);
+      going = going-none (remembering x y) (mem-start x y (λ h. 0) (suc (length y)));
     }
 
 pub mem-quiet : {m : ℕ} {mem : List ℕ} {j top : ℕ} {R : ℕ → ℕ} → Memory m mem j top R → top < j + m → Quiet m mem j top
@@ -132,11 +143,11 @@ mem-quiet g u = record { under = omega arith; quiet = λ h l k. g .says h l ∙ 
 memory-later : {m : ℕ} {mem : List ℕ} {j top : ℕ} {R : ℕ → ℕ} (s : ℕ) → Memory m mem j top R → Memory m mem (j + s) top R
 memory-later s g = record { says = λ h l. g .says h (omega arith); quiet = g .quiet }
 
-pub mem-next : {x y mem₀ mem mem′ : List ℕ} {p p′ : Place} {top top′ : ℕ} {ps : List ℕ} {w c : ℕ} {r : Passed} {s : ℕ} → Sizes x y → MemAt x y mem₀ mem p top ps w c → p .at + length x ≤ length y
+pub mem-next : {x y mem₀ mem mem′ : List ℕ} {p p′ : Place} {top top′ : ℕ} {ps : List ℕ} {w c : ℕ} {b b′ : Closest} {r : Passed} {s : ℕ} → Sizes x y → MemAt x y mem₀ mem p top ps w c b → p .at + length x ≤ length y
     → r ≡ passedOf (memPass x y (recalled mem (length x)) (p .at)) c → s ≡ move x y (p .at) (endOf (r .left))
-    → Kept (length x) mem (p .at) top (r .kept) mem′ top′ → length mem′ ≡ length mem → Stands (length x) (p .at + s) p′
-    → MemAt x y mem₀ mem′ p′ top′ (ps ++ found (p .at) (endOf (r .left)) []) (w + 1) (r .count)
-mem-next {x} {y} {mem₀} {mem} {mem′} {p} {p′} {top} {top′} {ps} {w} {c} {r} {s} z g l q v kept len on = rw e (go (g .fuel) (g .enough) (g .going))
+    → Kept (length x) mem (p .at) top (r .kept) mem′ top′ → length mem′ ≡ length mem → Stands (length x) (p .at + s) p′ → b′ ≡ closerBy b (length x - r .left) (p .at)
+    → MemAt x y mem₀ mem′ p′ top′ (ps ++ found (p .at) (endOf (r .left)) []) (w + 1) (r .count) b′
+mem-next {x} {y} {mem₀} {mem} {mem′} {p} {p′} {top} {top′} {ps} {w} {c} {b} {b′} {r} {s} z g l q v kept len on near = rw e (go (g .fuel) (g .enough) (g .going))
   where
     j : ℕ
     j = p .at
@@ -162,7 +173,11 @@ mem-next {x} {y} {mem₀} {mem} {mem′} {p} {p′} {top} {top′} {ps} {w} {c} 
     o : p′ .at ≡ j + s
     o = place-at on
 
-    go : (f : ℕ) → length y < f + j → Going (remembering x y) (memScan x y (g .R) f j) ps w c → MemAt x y mem₀ mem′ p′ top′ (ps ++ found j (P .end) []) (w + 1) (r .count)
+    n : b′ ≡ closerBy b (equalBy (length x) (P .end)) j
+    n = near ∙ ap (λ (k : ℕ). closerBy b k j) (equal-left (length x) (r .left) ∙ ap (equalBy (length x)) e)
+
+    go : (f : ℕ) → length y < f + j → Going (remembering x y) (memScan x y (g .R) f j) ps w c b
+        → MemAt x y mem₀ mem′ p′ top′ (ps ++ found j (P .end) []) (w + 1) (r .count) b′
     go zero u i = absurd (omega arith)
     go (suc f) u i =
         record {
@@ -175,11 +190,11 @@ mem-next {x} {y} {mem₀} {mem} {mem′} {p} {p′} {top} {top′} {ps} {w} {c} 
           fuel = f;
           enough = omega (arith, o, t, move-pos x y j (P .end));
           memory = rw (o, ← m) (memory-later s (kept .memory (g .R) (g .memory)));
-          going = rw (o, t) (going-more j P i (mem-step x y f j (g .R) l) k);
+          going = rw (o, t) (going-more (length x) j P i (mem-step x y f j (g .R) l) k n);
         }
 
 -- THE REMEMBERING LOOP'S INVARIANT, with the position room
-pub record MemLoop (x y d₀ d mem₀ mem : List ℕ) (step : ℕ) (p : Place) (top h w c : ℕ) : Type 0 where
+pub record MemLoop (x y d₀ d mem₀ mem : List ℕ) (step : ℕ) (p : Place) (top h w c : ℕ) (b : Closest) : Type 0 where
   pub ps : List ℕ
-  pub at : MemAt x y mem₀ mem p top ps w c
+  pub at : MemAt x y mem₀ mem p top ps w c b
   pub noted : Noted step ps d₀ d h

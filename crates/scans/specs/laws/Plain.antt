@@ -35,7 +35,7 @@ plain-comps x y j (suc i) = plain-case x y j i (λ w. w .comps ≤ suc i) (λ e.
 
 -- a scan's step and its end
 module _ (x y : List ℕ) (f j : ℕ) where
-  pub plain-step : j + length x ≤ length y → plainScan x y (suc f) j ≡ window j (plainPass x y j) ∷ plainScan x y f (j + move x y j (plainPass x y j .end))
+  pub plain-step : j + length x ≤ length y → plainScan x y (suc f) j ≡ window (length x) j (plainPass x y j) ∷ plainScan x y f (j + move x y j (plainPass x y j .end))
   unfolding plainScan
   plain-step h = rw (le-leb (j + length x) (length y) h, plainScan)
 

@@ -150,7 +150,7 @@ plain-mem x y j (suc i) =
 
 -- a scan's step and its end
 module _ (x y : List ℕ) (f j : ℕ) where
-  pub mem-step : (R : ℕ → ℕ) → j + length x ≤ length y → memScan x y R (suc f) j ≡ window j (memPass x y R j) ∷ memScan x y (after x y R j) f (j + move x y j (memPass x y R j .end))
+  pub mem-step : (R : ℕ → ℕ) → j + length x ≤ length y → memScan x y R (suc f) j ≡ window (length x) j (memPass x y R j) ∷ memScan x y (after x y R j) f (j + move x y j (memPass x y R j .end))
   unfolding memScan
   mem-step R h = rw (le-leb (j + length x) (length y) h, memScan)
 

@@ -47,7 +47,7 @@ shown (suc k) d ws = refl
 answer-is : (k : ℕ) (ws : List Window) (n : ℕ) → answerBy (searchedOf k 1 ws) n ≡ answerOf k ws n
 unfolding answerOf
 answer-is zero ws n = rw (multiples-one (positions ws))
-answer-is (suc k) ws n = let z : min 0 n ≡ 0 = omega arith in λ i. record { refusal = suc k; occurrences = 0; written = z i; windows = 0; comparisons = 0 }
+answer-is (suc k) ws n = let z : min 0 n ≡ 0 = omega arith in λ i. record { refusal = suc k; occurrences = 0; written = z i; windows = 0; comparisons = 0; closest = 0; «closest_at» = 0 }
 
 tally-is : (k d : ℕ) (ws : List Window) {r : List ℕ} → r ≡ reportedAfter k (placesOf d ws) (0 ∷ []) → tallyBy (searchedOf k d ws) (at r 0) ≡ tallyOf k (placesOf d ws)
 unfolding tallyOf

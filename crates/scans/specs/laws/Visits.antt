@@ -7,7 +7,7 @@ use native.Mathlib.Omega.{arith}
 use lib.ListN.{length}
 use Rattle.basics.specs.Lists.{at}
 use Rattle.basics.specs.laws.Tests.{eqb-case, leb-case}
-use Rattle.scans.specs.Trace.{comparisons, Visit, visit}
+use Rattle.scans.specs.Trace.{equalBy, comparisons, Visit, visit}
 use Rattle.scans.specs.Move.{move}
 use Rattle.scans.specs.Plain.{plainPass, plainScan}
 use Rattle.scans.specs.Remember.{memPass, remember, after, memScan}
@@ -75,7 +75,7 @@ module _ (x y : List ℕ) (pos : 1 ≤ length x) where
       let e : memPass x y R j .end ≡ plainPass x y j .end = same-end x y R j s (length x) (length x) (omega arith) (omega arith) in
       let d : ℕ = move x y j (plainPass x y j .end) in
       rw (mem-step x y f j R h, plain-step x y f j h, e)
-      (ap (λ (l : List Visit). record { start = j; end = plainPass x y j .end } ∷ l)
+      (ap (λ (l : List Visit). record { start = j; end = plainPass x y j .end; equal = equalBy (length x) (plainPass x y j .end) } ∷ l)
       (same-visits f (j + d) (after x y R j) (sound-after x y pos R j s r) (fresh-after x y pos R j s r d (move-pos x y j (plainPass x y j .end))))))
       (λ h. rw (mem-done x y f j R h, plain-done x y f j h))
 

@@ -1,6 +1,6 @@
 -- The suffix entry is the greatest k: its bytes agree, and the next differ or do not exist. Assumes nothing.
 use mathlib.Core.Path.{_≡_, sym, _∙_}
-use mathlib.Core.Logic.{_⊎_, inl, ⊎-elim}
+use mathlib.Core.Logic.{_⊎_, inl, inr, ⊎-elim}
 use mathlib.Core.Bool.{true, false, true≢false}
 use mathlib.Core.List.{List}
 use Prim.Native.Nat.{ℕ, suc, _+_, _-_, _≤_, _<_}
@@ -9,9 +9,9 @@ use native.Mathlib.Omega.{arith}
 use lib.ListN.{length}
 use Rattle.basics.specs.Lists.{at}
 use Rattle.basics.specs.Rooms.{Begins}
-use Rattle.basics.specs.laws.Tests.{is-false}
-use Rattle.basics.specs.laws.Search.{greatest-is, greatest-le, greatest-passes, greatest-above}
-use Rattle.basics.specs.laws.Lists.{slices-same, slices-agree, length-table, at-table}
+use Rattle.basics.specs.laws.Search.{greatest-le, greatest-passes, greatest-above}
+use Rattle.basics.specs.laws.Lists.{length-table, at-table}
+use Rattle.basics.specs.laws.Endings.{endings-same, endings-agree, longest-is}
 use Rattle.tables.specs.Suffix.{endsAlike, suffixAt, suffixTable}
 
 -- the bytes j places before the ends of x[0..i] and of x are equal. Places are given by sums, of which `omega` takes more than of differences
@@ -25,25 +25,19 @@ agree-by x i j u v p q e u′ v′ p′ q′ = let a : u′ ≡ u = omega arith 
 module _ (x : List ℕ) (i : ℕ) (h : i < length x) where
   alike : (k : ℕ) → k ≤ suc i → ((j : ℕ) → j < k → Agree x i j) → endsAlike x i k ≡ true
   unfolding endsAlike
-  alike k l a =
-      slices-same x x (suc i - k) (suc i) (length x - k) (length x) k (omega arith) (omega arith) (omega arith) (omega arith)
-      (λ t u. a (k - 1 - t) (omega arith) (suc i - k + t) (length x - k + t) (omega arith) (omega arith))
+  alike k l a = endings-same x (suc i) x (length x) h (omega arith) k l (omega arith) (λ j d u v p q. a j d u v (omega arith) q)
 
   alike-told : (k j : ℕ) → k ≤ suc i → j < k → endsAlike x i k ≡ true → Agree x i j
   unfolding endsAlike
-  alike-told k j l d e u v p q =
-      let t : ℕ = k - 1 - j in
-      let eu : suc i - k + t ≡ u = omega arith in
-      let ev : length x - k + t ≡ v = omega arith in
-      rw (eu, ev)
-      at (slices-agree x x (suc i - k) (suc i) (length x - k) (length x) k (omega arith) (omega arith) (omega arith) (omega arith) e t (omega arith))
+  alike-told k j l d e u v p q = endings-agree x (suc i) x (length x) h (omega arith) k j l (omega arith) d e u v (omega arith) q
 
   -- what a search downward from the two ends finds is the entry
   pub suffix-is : (k : ℕ) → k ≤ suc i → ((j : ℕ) → j < k → Agree x i j) → (k ≡ suc i) ⊎ (Agree x i k → ⊥) → suffixAt x i ≡ k
-  unfolding suffixAt
+  unfolding suffixAt endsAlike
   suffix-is k l a stop =
-      greatest-is (endsAlike x i) (suc i) k l (alike k l a)
-      (λ j u v. is-false (endsAlike x i j) (λ e. ⊎-elim (λ (w : k ≡ suc i). omega arith) (λ differ. differ (alike-told j k v u e)) stop))
+      longest-is x (suc i) x (length x) h (omega arith) (suc i) k (omega arith) (omega arith) l
+      (λ j d u v p q. a j d u v (omega arith) q)
+      (⊎-elim (λ (e : k ≡ suc i). inl e) (λ differ. inr (λ m. differ (λ u v p q. m u v (omega arith) q))) stop)
 
   pub suffix-le : suffixAt x i ≤ suc i
   unfolding suffixAt

@@ -4,6 +4,7 @@
 use Prim.Native.Nat.{_+_, _-_}
 use mathlib.Core.List.{[], _++_}
 use native.Mathlib.Omega.{arith}
+use borrow.Author.Needs.{needs}
 use lib.ListN.{length}
 use Rattle.basics.specs.Lists.{at}
 use Rattle.scans.specs.Trace.{found}
@@ -16,10 +17,11 @@ use Rattle.scans.proofs.loops.plainly.Statement.{statement}
 use Rattle.scans.proofs.loops.plainly.Tie as tie
 
 abbrev Inv-loop : tie.InvT-loop
-Inv-loop x y tables occ room₀ j₀ hits₀ visited₀ count₀ room j hits visited count = PlainLoop x y room₀ room j hits visited count
+Inv-loop x y tables occ room₀ j₀ hits₀ visited₀ count₀ closest₀ room j hits visited count closest =
+    PlainLoop x y room₀ room j hits visited count closest
 
 abbrev μ-loop : tie.MeasureT-loop
-μ-loop x y tables occ room₀ j₀ hits₀ visited₀ count₀ room j hits visited count = length y + length x - j
+μ-loop x y tables occ room₀ j₀ hits₀ visited₀ count₀ closest₀ room j hits visited count closest = length y + length x - j
 
 loop-holds : tie.Need-loop-holds Inv-loop μ-loop
 loop-holds c =
@@ -37,10 +39,16 @@ add-visited c = omega arith
 note-requires : tie.Need-note-requires Inv-loop μ-loop
 note-requires c κs = let l = c .before .before .before .loop in omega (arith, noted-le (l .inv .noted))
 
+sub-closer : tie.Need-sub-closer Inv-loop μ-loop
+sub-closer c = omega (arith, c .before .before .before .before .plainly .ensures .1)
+
+closer-requires : tie.Need-closer-requires Inv-loop μ-loop
+closer-requires c κs = search needs
+
 by-requires : tie.Need-by-requires Inv-loop μ-loop
 by-requires c κs =
-    let s = c .before .before .before .before .before .before .before .before .before .before .before in
-    (record { sizes = s .pre .0; within = omega arith }, (s .pre .1, c .before .before .before .before .plainly .ensures .1))
+    let s = c .before .before .before .before .before .before .before .before .before .before .before .before in
+    (record { sizes = s .pre .0; within = omega arith }, (s .pre .1, c .before .before .before .before .before .plainly .ensures .1))
 
 add-j : tie.Need-add-j Inv-loop μ-loop
 add-j c = omega arith
@@ -50,14 +58,14 @@ loop-less c = omega arith
 
 loop-again : tie.Need-loop-again Inv-loop μ-loop
 loop-again c =
-    let w = c .before .before .before .before .before in
+    let w = c .before .before .before .before .before .before in
     let l = w .before .before .loop in
     let s = w .before .before .before .before .before .before .before in
-    let n = c .before .before .before .note in
+    let n = c .before .before .before .before .note in
     let e = endOf (w .plainly .result .left) in
     record {
       ps = l .inv .ps ++ found (l .j) e [];
-      at = plain-next (s .pre .0) (l .inv .at) (omega arith) (w .plainly .ensures .0) (c .by .ensures .0);
+      at = plain-next (s .pre .0) (l .inv .at) (omega arith) (w .plainly .ensures .0) (c .by .ensures .0) (c .before .closer .ensures);
       noted = noted-more (l .inv .noted) (l .j) e (n .ensures .0) (n .ensures .1);
     }
 
@@ -83,6 +91,8 @@ plainly-spec =
     plainly-requires
     add-visited
     note-requires
+    sub-closer
+    closer-requires
     by-requires
     add-j
     loop-less

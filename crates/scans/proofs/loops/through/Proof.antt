@@ -2,15 +2,19 @@
 -- says what the scan remembers, and what is done is noted and counted.
 -- Assumes nothing.
 use Prim.Native.Nat.{_+_, _-_}
-use mathlib.Core.Path.{refl}
+use mathlib.Core.Path.{_≡_, refl, sym}
 use mathlib.Core.List.{[], _++_}
+use native.Mathlib.Nat.{sub-self}
 use native.Mathlib.Omega.{arith}
+use borrow.Author.Needs.{needs}
 use lib.ListN.{length}
 use Rattle.basics.specs.Lists.{at}
 use Rattle.scans.specs.Trace.{found}
 use Rattle.scans.specs.inside.Window.{endOf}
+use Rattle.scans.specs.inside.Closest.{closerBy}
 use Rattle.scans.specs.laws.Remember.{mem-end}
 use Rattle.scans.specs.laws.Hits.{note-stopped, noted-none, noted-more, noted-length, noted-le}
+use Rattle.scans.specs.laws.Closeness.{closer-none}
 use Rattle.scans.specs.laws.Going.{going-run, going-room}
 use Rattle.scans.specs.laws.Slots.{place-at, kept-none}
 use Rattle.scans.specs.laws.Passes.{last-equal, last-unequal}
@@ -19,11 +23,11 @@ use Rattle.scans.proofs.loops.through.Statement.{statement}
 use Rattle.scans.proofs.loops.through.Tie as tie
 
 abbrev Inv-loop : tie.InvT-loop
-Inv-loop x y tables occ mem₀ room₀ step m p₀ top₀ hits₀ visited₀ count₀ mem room p top hits visited count =
-    MemLoop x y room₀ room mem₀ mem step p top hits visited count
+Inv-loop x y tables occ mem₀ room₀ step m p₀ top₀ hits₀ visited₀ count₀ closest₀ mem room p top hits visited count closest =
+    MemLoop x y room₀ room mem₀ mem step p top hits visited count closest
 
 abbrev μ-loop : tie.MeasureT-loop
-μ-loop x y tables occ mem₀ room₀ step m p₀ top₀ hits₀ visited₀ count₀ mem room p top hits visited count =
+μ-loop x y tables occ mem₀ room₀ step m p₀ top₀ hits₀ visited₀ count₀ closest₀ mem room p top hits visited count closest =
     length y + length x - p .at
 
 loop-holds : tie.Need-loop-holds Inv-loop μ-loop
@@ -73,33 +77,39 @@ note-requires c κs =
     let l = c .before .before .before .before .before .before .before .before .before .loop in
     omega (arith, noted-le (l .inv .noted), l .inv .at .counted, c .before .before .before .before .before .before .before .if1 .taken, c .before .before .before .before .before .before .before .before .before .before .before .before .before .before .before .pre .0)
 
+sub-closer : tie.Need-sub-closer Inv-loop μ-loop
+sub-closer c = omega (arith, c .before .before .before .before .before .before .remembering .ensures .1)
+
+closer-requires : tie.Need-closer-requires Inv-loop μ-loop
+closer-requires c κs = search needs
+
 keep-requires : tie.Need-keep-requires Inv-loop μ-loop
 keep-requires c κs =
-    let w = c .before .before .before .before .before .before .before .remembering .ensures .1 in
-    let l = c .before .before .before .before .before .before .before .before .before .before .before .before .before .loop in
-    let s = c .before .before .before .before .before .before .before .before .before .before .before .before .before .before .before .before .before .before .before in
-    (omega (arith, w, c .before .before .before .before .before .before .before .before .before .before .before .if1 .taken, l .inv .at .room, l .inv .at .under, s .pre .0 .some, s .pre .0 .short, s .pre .0 .small, s .pre .1 .1 .0 .memory), l .inv .at .place)
+    let w = c .before .before .before .before .before .before .before .before .remembering .ensures .1 in
+    let l = c .before .before .before .before .before .before .before .before .before .before .before .before .before .before .loop in
+    let s = c .before .before .before .before .before .before .before .before .before .before .before .before .before .before .before .before .before .before .before .before in
+    (omega (arith, w, c .before .before .before .before .before .before .before .before .before .before .before .before .if1 .taken, l .inv .at .room, l .inv .at .under, s .pre .0 .some, s .pre .0 .short, s .pre .0 .small, s .pre .1 .1 .0 .memory), l .inv .at .place)
 
 loop-less : tie.Need-loop-less Inv-loop μ-loop
-loop-less c = omega (arith, c .before .before .before .before .before .before .before .before .before .by .ensures .1, place-at (c .before .before .before .before .before .before .before .before .on .ensures), c .before .before .before .before .before .before .before .before .before .before .before .before .before .before .before .before .loop .inv .at .counted .place)
+loop-less c = omega (arith, c .before .before .before .before .before .before .before .before .before .before .by .ensures .1, place-at (c .before .before .before .before .before .before .before .before .before .on .ensures), c .before .before .before .before .before .before .before .before .before .before .before .before .before .before .before .before .before .loop .inv .at .counted .place)
 
 loop-again : tie.Need-loop-again Inv-loop μ-loop
 loop-again c =
     let k = c .before .before .keep in
-    let n = c .before .before .before .before .before .before .note in
-    let w = c .before .before .before .before .before .before .before .before .before .before .remembering in
-    let last = c .before .before .before .before .before .before .before .before .before .before .before .before .before .last in
-    let l = c .before .before .before .before .before .before .before .before .before .before .before .before .before .before .before .before .loop in
-    let s = c .before .before .before .before .before .before .before .before .before .before .before .before .before .before .before .before .before .before .before .before .before .before in
+    let n = c .before .before .before .before .before .before .before .note in
+    let w = c .before .before .before .before .before .before .before .before .before .before .before .remembering in
+    let last = c .before .before .before .before .before .before .before .before .before .before .before .before .before .before .last in
+    let l = c .before .before .before .before .before .before .before .before .before .before .before .before .before .before .before .before .before .loop in
+    let s = c .before .before .before .before .before .before .before .before .before .before .before .before .before .before .before .before .before .before .before .before .before .before .before in
     let a = s .args in
     let e = endOf (w .result .left) in
     let quiet = mem-quiet (l .inv .at .memory) (l .inv .at .under) in
     let pass =
     last-equal (a .x .now) (a .y .now) (l .mem) (l .p .at) (l .top) (l .count) (s .pre .0 .some) quiet (last .ensures .0) (last .ensures .1)
-    (c .before .before .before .before .before .before .before .before .before .before .before .before .if2 .taken) (w .ensures .0) in
+    (c .before .before .before .before .before .before .before .before .before .before .before .before .before .if2 .taken) (w .ensures .0) in
     record {
       ps = l .inv .ps ++ found (l .p .at) e [];
-      at = mem-next (s .pre .0) (l .inv .at) (omega (arith, c .before .before .before .before .before .before .before .before .before .before .before .before .before .before .if1 .taken)) pass (c .before .before .before .before .before .before .before .before .before .by .ensures .0) (k .ensures) (k .kept .0) (c .before .before .before .before .before .before .before .before .on .ensures);
+      at = mem-next (s .pre .0) (l .inv .at) (omega (arith, c .before .before .before .before .before .before .before .before .before .before .before .before .before .before .before .if1 .taken)) pass (c .before .before .before .before .before .before .before .before .before .before .by .ensures .0) (k .ensures) (k .kept .0) (c .before .before .before .before .before .before .before .before .before .on .ensures) (c .before .before .before .before .closer .ensures);
       noted = noted-more (l .inv .noted) (l .p .at) e (n .ensures .0) (n .ensures .1);
     }
 
@@ -129,10 +139,11 @@ loop-again-2 c =
     let pass =
     last-unequal (a .x .now) (a .y .now) (l .mem) (l .p .at) (l .top) (l .count) (s .pre .0 .some) quiet (last .ensures .0) (last .ensures .1)
     (c .before .before .if2 .left) in
+    let near : l .closest ≡ closerBy (l .closest) (m - m) (l .p .at) = sym (rw (sub-self m) (closer-none (l .closest) (l .p .at))) in
     let n = note-stopped (a .step) (l .p .at) m (l .hits) (l .room) (λ z. omega (arith, z, s .pre .0 .some)) in
     record {
       ps = l .inv .ps ++ found (l .p .at) (endOf m) [];
-      at = mem-next (s .pre .0) (l .inv .at) (omega (arith, c .before .before .before .before .if1 .taken)) pass (c .before .by2 .ensures .0) (kept-none m (l .mem) (l .p .at) (l .top) (s .pre .0 .some) (l .inv .at .under)) refl (c .on2 .ensures);
+      at = mem-next (s .pre .0) (l .inv .at) (omega (arith, c .before .before .before .before .if1 .taken)) pass (c .before .by2 .ensures .0) (kept-none m (l .mem) (l .p .at) (l .top) (s .pre .0 .some) (l .inv .at .under)) refl (c .on2 .ensures) near;
       noted = noted-more (l .inv .noted) (l .p .at) (endOf m) (n .0) (n .1);
     }
 
@@ -164,6 +175,8 @@ through-spec =
     by-requires
     on-requires
     note-requires
+    sub-closer
+    closer-requires
     keep-requires
     loop-less
     loop-again
