@@ -23,6 +23,8 @@ answer-told {r} {r′} e z z′ =
       written = e k .written;
       windows = e k .windows;
       comparisons = e k .comparisons;
+      closest = e k .closest;
+      «closest_at» = e k .«closest_at»;
     }
 
 pub tested-told : {r r′ : Tested} → testedSeen r ≡ testedSeen r′ → r ≡ r′

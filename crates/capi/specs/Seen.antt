@@ -17,7 +17,16 @@ occurrencesSeen r = record { refusal = r .refusal; table = r .table }
 
 -- without the entry number, which is 0
 abbrev pub answerSeen : Searched → scans.Answer
-answerSeen r = record { refusal = r .refusal; occurrences = r .occurrences; written = r .written; windows = r .windows; comparisons = r .comparisons }
+answerSeen r =
+    record {
+      refusal = r .refusal;
+      occurrences = r .occurrences;
+      written = r .written;
+      windows = r .windows;
+      comparisons = r .comparisons;
+      closest = r .closest;
+      «closest_at» = r .«closest_at»;
+    }
 
 abbrev pub testedSeen : Tested → tested.Tested
 testedSeen r = record { refusal = r .refusal; entry = r .entry; count = r .count }

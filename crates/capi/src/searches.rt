@@ -12,6 +12,8 @@ pub struct Searched {
     pub written: u64,
     pub windows: u64,
     pub comparisons: u64,
+    pub closest: u64,
+    pub closest_at: u64,
 }
 
 #[no_mangle]
@@ -54,5 +56,7 @@ fn for_c(a: scans::Answer) -> Searched
         written: a.written,
         windows: a.windows,
         comparisons: a.comparisons,
+        closest: a.closest,
+        closest_at: a.closest_at,
     }
 }

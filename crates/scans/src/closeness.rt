@@ -1,5 +1,6 @@
 // How close the windows came.
 ghost use mathlib.Core.Path.{_≡_};
+ghost use Prim.Native.Nat.{_-_, _≤_};
 ghost use Rattle.scans.specs.inside.Closest.{closerBy};
 
 // The closest window so far: how many trailing bytes of the probe equal the stream there, and where it starts.
@@ -16,4 +17,19 @@ pub(crate) fn closer(best: Closest, equal: usize, j: usize) -> Closest
         return Closest { equal, at: j };
     }
     best
+}
+
+// The same for a window of m bytes that ended so. Nothing is closer than a match, so where one match follows another, as
+// in a stuck stream, one test for equality is all that it costs.
+pub(crate) fn after(best: Closest, m: usize, left: usize, j: usize) -> Closest
+    requires { ⌜ (left ≤ m) × (best .equal ≤ m) ⌝ }
+    ensures { λ r. ⌜ r ≡ closerBy best (m - left) j ⌝ }
+{
+    if left != 0 {
+        return closer(best, m - left, j);
+    }
+    if best.equal == m {
+        return best;
+    }
+    Closest { equal: m, at: j }
 }

@@ -41,8 +41,9 @@ pub(crate) fn plainly(x: &[u8], y: &[u8], tables: &[u16], occ: &[u32; 256], room
         count = w.count;
         visited += 1;
         hits = hits::note(room, hits, 1, j, left);
+        let d = moves::by(x, y, tables, occ, j, left);
         closest = closeness::closer(closest, x.len() - left, j);
-        j += moves::by(x, y, tables, occ, j, left);
+        j += d;
     }
     Run {
         hits,
@@ -115,7 +116,7 @@ fn through(
             let d = moves::by(x, y, tables, occ, j, left);
             let next = memory::on(m, p, d);
             hits = hits::note(room, hits, step, j, left);
-            closest = closeness::closer(closest, m - left, j);
+            closest = closeness::after(closest, m, left, j);
             top = memory::keep(mem, m, p, top, w.kept);
             p = next;
         } else {

@@ -9,10 +9,10 @@ use native.Mathlib.Omega.{arith}
 use borrow.Author.Tests.{eq-eqb, ne-eqb, le-ltb}
 use lib.Dec.{eqb, ltb}
 use lib.ListN.{length}
-use Rattle.basics.specs.laws.Tests.{eqb-case, ltb-case}
+use Rattle.basics.specs.laws.Tests.{bool-case, eqb-case, ltb-case}
 use Rattle.basics.specs.laws.Endings.{longest-is}
 use Rattle.scans.specs.declared.closeness.Closest.{Closest}
-use Rattle.scans.specs.Trace.{Pass, equalBy, Window, Visit, visit}
+use Rattle.scans.specs.Trace.{End, matched, stopped, Pass, equalBy, Window, Visit, visit}
 use Rattle.scans.specs.Move.{move}
 use Rattle.scans.specs.Plain.{plainFrom, plainPass, plainScan}
 use Rattle.scans.specs.Remember.{memScan}
@@ -158,6 +158,14 @@ closest-then ws w z =
     let e : closest (ws ++ (w ∷ [])) ≡ closest ws = omega (arith, closest-more ws w) in
     let a : closestAt (ws ++ (w ∷ [])) ≡ closestAt ws = at-more ws w z l in
     λ k. record { equal = e k; at = a k })
+
+-- at most m bytes are equal
+pub equal-le : (m : ℕ) (e : End) → equalBy m e ≤ m
+equal-le m matched = omega arith
+equal-le m (stopped i) = omega arith
+
+pub closer-le : (b : Closest) (k j m : ℕ) → b .equal ≤ m → k ≤ m → closerBy b k j .equal ≤ m
+closer-le b k j m l u = bool-case (ltb (b .equal) k) (λ t. cond t (record { equal = k; at = j }) b .equal ≤ m) (λ e. u) (λ e. l)
 
 -- nothing equal: no closer
 pub closer-none : (b : Closest) (j : ℕ) → closerBy b 0 j ≡ b

@@ -20,38 +20,40 @@ use Rattle.scans.specs.laws.Plain.{plain-comps, plain-step}
 use Rattle.scans.specs.laws.Remember.{mem-ext, mem-comps, mem-step}
 use Rattle.scans.specs.laws.Move.{move-pos, move-le}
 use Rattle.scans.specs.inside.Closest.{closerBy}
-use Rattle.scans.specs.laws.Closeness.{plain-start, mem-start}
+use Rattle.scans.specs.laws.Closeness.{plain-start, mem-start, equal-le, closer-le}
 use Rattle.scans.specs.laws.Going.{none, Going, going-none, going-more}
 use Rattle.scans.specs.laws.Hits.{Noted}
 use Rattle.scans.specs.laws.Slots.{place-first, place-at, place-again, cleared}
 
--- the numbers stay in range: a window moves by at least 1, compares at most m times and reports at most once
-pub record Counted (x y : List ℕ) (j : ℕ) (ps : List ℕ) (w c : ℕ) : Type 0 where
+-- the numbers stay in range: a window moves by at least 1, compares at most m times, reports at most once and has at most m bytes equal
+pub record Counted (x y : List ℕ) (j : ℕ) (ps : List ℕ) (w c : ℕ) (b : Closest) : Type 0 where
   pub place : j ≤ length y + length x
   pub windows : w ≤ j
   pub hits : length ps ≤ w
   pub count : c ≤ 4096 * w
+  pub closest : b .equal ≤ length x
 
-pub counted-none : (x y : List ℕ) → Counted x y 0 [] 0 0
-counted-none x y = record { place = zero-le; windows = zero-le; hits = zero-le; count = zero-le }
+pub counted-none : (x y : List ℕ) → Counted x y 0 [] 0 0 none
+counted-none x y = record { place = zero-le; windows = zero-le; hits = zero-le; count = zero-le; closest = zero-le }
 
 found-le : (j : ℕ) (e : End) → length (found j e []) ≤ 1
 found-le j matched = omega arith
 found-le j (stopped i) = omega arith
 
-pub counted-next : {x y : List ℕ} {j : ℕ} {ps : List ℕ} {w c : ℕ} (e : End) → Sizes x y → Counted x y j ps w c → j + length x ≤ length y → (s k : ℕ)
-    → s ≡ move x y j e → k ≤ length x → Counted x y (j + s) (ps ++ found j e []) (w + 1) (c + k)
-counted-next {x} {y} {j} {ps} e z g l s k q u =
+pub counted-next : {x y : List ℕ} {j : ℕ} {ps : List ℕ} {w c : ℕ} {b b′ : Closest} (e : End) → Sizes x y → Counted x y j ps w c b → j + length x ≤ length y → (s k : ℕ)
+    → s ≡ move x y j e → k ≤ length x → b′ ≡ closerBy b (equalBy (length x) e) j → Counted x y (j + s) (ps ++ found j e []) (w + 1) (c + k) b′
+counted-next {x} {y} {j} {ps} {b = b} e z g l s k q u n =
     record {
       place = omega (arith, move-le x y j e (z .some));
       windows = omega (arith, g .windows, move-pos x y j e);
       hits = omega (arith, g .hits, length-append ps (found j e []), found-le j e);
       count = omega (arith, g .count, z .short);
+      closest = rw n (closer-le b (equalBy (length x) e) j (length x) (g .closest) (equal-le (length x) e));
     }
 
 -- the plain scan at its window j: the positions ps are found, w windows and c comparisons are made, and b is the closest window
 pub record PlainAt (x y : List ℕ) (j : ℕ) (ps : List ℕ) (w c : ℕ) (b : Closest) : Type 0 where
-  pub counted : Counted x y j ps w c
+  pub counted : Counted x y j ps w c b
   pub fuel : ℕ
   pub enough : length y < fuel + j
   pub going : Going (plain x y) (plainScan x y fuel j) ps w c b
@@ -96,7 +98,7 @@ plain-next {x} {y} {j} {ps} {w} {c} {b} {b′} {r} {s} z g l q v near = rw e (go
     go zero u o = absurd (omega arith)
     go (suc f) u o =
         record {
-          counted = rw k (counted-next (p .end) z (g .counted) l s (p .comps) t (plain-comps x y j (length x)));
+          counted = rw k (counted-next (p .end) z (g .counted) l s (p .comps) t (plain-comps x y j (length x)) n);
           fuel = f;
           enough = omega (arith, t, move-pos x y j (p .end));
           going = rw t (going-more (length x) j p o (plain-step x y f j l) k n);
@@ -110,7 +112,7 @@ pub record PlainLoop (x y d₀ d : List ℕ) (j h w c : ℕ) (b : Closest) : Typ
 
 -- The remembering scan at its window p: the positions ps are found, w windows and c comparisons are made, b is the closest window, and the memory room is mem, which says what R says from the window on
 pub record MemAt (x y mem₀ mem : List ℕ) (p : Place) (top : ℕ) (ps : List ℕ) (w c : ℕ) (b : Closest) : Type 0 where
-  pub counted : Counted x y (p .at) ps w c
+  pub counted : Counted x y (p .at) ps w c b
   pub place : Stands (length x) (p .at) p
   pub under : top < p .at + length x
   pub room : length mem ≡ length mem₀
@@ -181,7 +183,7 @@ mem-next {x} {y} {mem₀} {mem} {mem′} {p} {p′} {top} {top′} {ps} {w} {c} 
     go zero u i = absurd (omega arith)
     go (suc f) u i =
         record {
-          counted = rw (k, o) (counted-next (P .end) z (g .counted) l s (P .comps) t (mem-comps x y (g .R) j (length x) (length x)));
+          counted = rw (k, o) (counted-next (P .end) z (g .counted) l s (P .comps) t (mem-comps x y (g .R) j (length x) (length x)) n);
           place = place-again on;
           under = omega (arith, o, t, move-pos x y j (P .end), kept .under);
           room = len ∙ g .room;

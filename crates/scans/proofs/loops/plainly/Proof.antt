@@ -39,16 +39,16 @@ add-visited c = omega arith
 note-requires : tie.Need-note-requires Inv-loop μ-loop
 note-requires c κs = let l = c .before .before .before .loop in omega (arith, noted-le (l .inv .noted))
 
+by-requires : tie.Need-by-requires Inv-loop μ-loop
+by-requires c κs =
+    let s = c .before .before .before .before .before .before .before .before .before .before .before in
+    (record { sizes = s .pre .0; within = omega arith }, (s .pre .1, c .before .before .before .before .plainly .ensures .1))
+
 sub-closer : tie.Need-sub-closer Inv-loop μ-loop
-sub-closer c = omega (arith, c .before .before .before .before .plainly .ensures .1)
+sub-closer c = omega (arith, c .before .before .before .before .before .plainly .ensures .1)
 
 closer-requires : tie.Need-closer-requires Inv-loop μ-loop
 closer-requires c κs = search needs
-
-by-requires : tie.Need-by-requires Inv-loop μ-loop
-by-requires c κs =
-    let s = c .before .before .before .before .before .before .before .before .before .before .before .before in
-    (record { sizes = s .pre .0; within = omega arith }, (s .pre .1, c .before .before .before .before .before .plainly .ensures .1))
 
 add-j : tie.Need-add-j Inv-loop μ-loop
 add-j c = omega arith
@@ -65,7 +65,7 @@ loop-again c =
     let e = endOf (w .plainly .result .left) in
     record {
       ps = l .inv .ps ++ found (l .j) e [];
-      at = plain-next (s .pre .0) (l .inv .at) (omega arith) (w .plainly .ensures .0) (c .by .ensures .0) (c .before .closer .ensures);
+      at = plain-next (s .pre .0) (l .inv .at) (omega arith) (w .plainly .ensures .0) (c .before .by .ensures .0) (c .closer .ensures);
       noted = noted-more (l .inv .noted) (l .j) e (n .ensures .0) (n .ensures .1);
     }
 
@@ -91,9 +91,9 @@ plainly-spec =
     plainly-requires
     add-visited
     note-requires
+    by-requires
     sub-closer
     closer-requires
-    by-requires
     add-j
     loop-less
     loop-again

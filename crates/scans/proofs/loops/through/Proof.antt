@@ -6,7 +6,6 @@ use mathlib.Core.Path.{_≡_, refl, sym}
 use mathlib.Core.List.{[], _++_}
 use native.Mathlib.Nat.{sub-self}
 use native.Mathlib.Omega.{arith}
-use borrow.Author.Needs.{needs}
 use lib.ListN.{length}
 use Rattle.basics.specs.Lists.{at}
 use Rattle.scans.specs.Trace.{found}
@@ -77,11 +76,8 @@ note-requires c κs =
     let l = c .before .before .before .before .before .before .before .before .before .loop in
     omega (arith, noted-le (l .inv .noted), l .inv .at .counted, c .before .before .before .before .before .before .before .if1 .taken, c .before .before .before .before .before .before .before .before .before .before .before .before .before .before .before .pre .0)
 
-sub-closer : tie.Need-sub-closer Inv-loop μ-loop
-sub-closer c = omega (arith, c .before .before .before .before .before .before .remembering .ensures .1)
-
-closer-requires : tie.Need-closer-requires Inv-loop μ-loop
-closer-requires c κs = search needs
+after-requires : tie.Need-after-requires Inv-loop μ-loop
+after-requires c κs = (c .before .before .before .before .before .before .remembering .ensures .1 .0, c .before .before .before .before .before .before .before .before .before .before .before .before .loop .inv .at .counted .closest)
 
 keep-requires : tie.Need-keep-requires Inv-loop μ-loop
 keep-requires c κs =
@@ -109,7 +105,7 @@ loop-again c =
     (c .before .before .before .before .before .before .before .before .before .before .before .before .before .if2 .taken) (w .ensures .0) in
     record {
       ps = l .inv .ps ++ found (l .p .at) e [];
-      at = mem-next (s .pre .0) (l .inv .at) (omega (arith, c .before .before .before .before .before .before .before .before .before .before .before .before .before .before .before .if1 .taken)) pass (c .before .before .before .before .before .before .before .before .before .before .by .ensures .0) (k .ensures) (k .kept .0) (c .before .before .before .before .before .before .before .before .before .on .ensures) (c .before .before .before .before .closer .ensures);
+      at = mem-next (s .pre .0) (l .inv .at) (omega (arith, c .before .before .before .before .before .before .before .before .before .before .before .before .before .before .before .if1 .taken)) pass (c .before .before .before .before .before .before .before .before .before .before .by .ensures .0) (k .ensures) (k .kept .0) (c .before .before .before .before .before .before .before .before .before .on .ensures) (c .before .before .before .before .after .ensures);
       noted = noted-more (l .inv .noted) (l .p .at) e (n .ensures .0) (n .ensures .1);
     }
 
@@ -175,8 +171,7 @@ through-spec =
     by-requires
     on-requires
     note-requires
-    sub-closer
-    closer-requires
+    after-requires
     keep-requires
     loop-less
     loop-again
