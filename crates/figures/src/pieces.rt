@@ -44,8 +44,7 @@ pub(crate) fn found(out: &mut [u8], at: usize, positions: &[u32], a: Answer) -> 
     }
     let at = lines::word(out, at, b"positions");
     let at = listed(out, at, positions, a.written);
-    let at = labelled(out, at, b", windows ", a.windows);
-    labelled(out, at, b", comparisons ", a.comparisons)
+    work(out, at, a)
 }
 
 // Puts the answer of a search that was lent no room for positions.
@@ -54,8 +53,15 @@ pub(crate) fn counted(out: &mut [u8], at: usize, a: Answer) -> usize {
         return verdict(out, at, a.refusal);
     }
     let at = labelled(out, at, b"occurrences ", a.occurrences);
+    work(out, at, a)
+}
+
+// Puts the work of a search, and how close it came.
+fn work(out: &mut [u8], at: usize, a: Answer) -> usize {
     let at = labelled(out, at, b", windows ", a.windows);
-    labelled(out, at, b", comparisons ", a.comparisons)
+    let at = labelled(out, at, b", comparisons ", a.comparisons);
+    let at = labelled(out, at, b", closest ", a.closest);
+    labelled(out, at, b" at ", a.closest_at)
 }
 
 // Puts n positions, or says that there are none.

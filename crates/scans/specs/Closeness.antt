@@ -4,7 +4,8 @@
 --     y  . . . a v v v v v . .       v: the last k bytes of x, and of the window at j;
 --     x  . . . b v v v v v           k is the greatest where a ≠ b, or where there is no b
 use mathlib.Core.Bool.{Bool, cond}
-use mathlib.Core.List.{List, [], _∷_}
+use mathlib.Core.Path.{_≡_}
+use mathlib.Core.List.{List, [], _∷_, map}
 use Prim.Native.Nat.{ℕ, _+_, _-_, max}
 use lib.Dec.{eqb}
 use lib.ListN.{length}
@@ -20,6 +21,10 @@ endsEqual x y j k = same (slice (j + length x - k) (j + length x) y) (slice (len
 -- how many trailing bytes of x equal the stream there. Nothing of a scan is in it
 unfoldable pub trailing : List ℕ → List ℕ → ℕ → ℕ
 trailing x y j = greatest (endsEqual x y j) (length x)
+
+-- each window of a trace tells this number
+abbrev pub Truly : List ℕ → List ℕ → List Window → Type 0
+Truly x y ws = map (λ (w : Window). w .equal) ws ≡ map (λ (w : Window). trailing x y (w .start)) ws
 
 -- the greatest such number that a window of a trace tells; 0 with no window
 unfoldable pub closest : List Window → ℕ

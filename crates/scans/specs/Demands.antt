@@ -1,14 +1,15 @@
--- Demands 2 and 3: theorems over the definitions, and what they say of the answers of the calls. Assumes nothing.
+-- Demands 2 and 3, and how close a scan comes: theorems over the definitions, and what they say of the answers of the calls. Assumes nothing.
 use mathlib.Core.Path.{_≡_, refl, sym, ap, _∙_}
 use mathlib.Core.List.{List, map}
-use Prim.Native.Nat.{ℕ, zero, suc, _+_, _-_, _*_, _≤_, zero-le}
+use Prim.Native.Nat.{ℕ, zero, suc, _+_, _-_, _*_, _≤_, _<_, zero-le}
 use native.Mathlib.Omega.{arith}
 use lib.ListN.{length, length-map}
 use Rattle.scans.specs.declared.Answer.{Answer}
 use Rattle.scans.specs.Trace.{Window, comparisons, positions, visit}
-use Rattle.scans.specs.Plain.{plain}
+use Rattle.scans.specs.Plain.{plainScan, plain}
 use Rattle.scans.specs.Remember.{remembering}
-use Rattle.scans.specs.Occurrences.{occurrences}
+use Rattle.scans.specs.Occurrences.{occurrences, firstOf}
+use Rattle.scans.specs.Closeness.{Truly, closest, closestAt}
 use Rattle.scans.specs.Refusal.{refusalOf}
 use Rattle.scans.specs.Promise.{answerOf, reported, Plainly, Rememberingly}
 use Rattle.scans.specs.laws.Refusal.{accepted}
@@ -16,6 +17,7 @@ use Rattle.scans.specs.laws.Ending.{Sound}
 use Rattle.scans.specs.laws.Free.{free-le}
 use Rattle.scans.specs.laws.Visits.{Fresh, same-visits, no-more, bounded}
 use Rattle.scans.specs.laws.Occurrences.{all-found, same-positions}
+use Rattle.scans.specs.laws.Closeness.{plain-true, same-true, same-closest, plain-reaches}
 
 -- DEMAND 3. For 1 ≤ m ≤ n the remembering scan visits the same windows in the same order as the plain one, each with the same end, never makes more
 -- comparisons, and at most 2n − m + 1.
@@ -48,6 +50,37 @@ pub record Demand2 (x y : List ℕ) : Type 0 where
 pub demand2 : (x y : List ℕ) → 1 ≤ length x → Demand2 x y
 demand2 x y some =
     record { plainly = all-found x y some; remembered = same-positions (remembering x y) (plain x y) (visits x y some) ∙ all-found x y some }
+
+-- REQUEST FOUR. Each window of either scan tells the true number of trailing bytes that equal the stream there, also where it stops without a comparison; and both
+-- scans come equally close, at the same window.
+pub record Close (x y : List ℕ) : Type 0 where
+  pub plainly : Truly x y (plain x y)
+  pub remembered : Truly x y (remembering x y)
+  pub same-closest : closest (remembering x y) ≡ closest (plain x y)
+  pub same-place : closestAt (remembering x y) ≡ closestAt (plain x y)
+
+pub close : (x y : List ℕ) → 1 ≤ length x → Close x y
+unfolding plain
+close x y some =
+    let t : Truly x y (plain x y) = plain-true x y (suc (length y)) 0 in
+    let v = visits x y some in
+    let c = same-closest (remembering x y) (plain x y) v in
+    record { plainly = t; remembered = same-true x y (remembering x y) (plain x y) v t; same-closest = c .0; same-place = c .1 }
+
+-- Where the probe occurs, all m bytes are equal, and the window is the first occurrence; where it does not, fewer are.
+pub record Reaches (x y : List ℕ) : Type 0 where
+  pub hit : 1 ≤ length (occurrences x y) → (closest (plain x y) ≡ length x) × (closestAt (plain x y) ≡ firstOf (occurrences x y))
+  pub none : length (occurrences x y) ≡ 0 → closest (plain x y) < length x
+
+pub reaches : (x y : List ℕ) → 1 ≤ length x → Reaches x y
+unfolding plain
+reaches x y some =
+    let r = plain-reaches x y some (suc (length y)) 0 in
+    let p : positions (plainScan x y (suc (length y)) 0) ≡ occurrences x y = all-found x y some in
+    record {
+      hit = λ h. let q = r .hit (rw p h) in (q .0, rw (q .0) (q .1) ∙ ap firstOf p);
+      none = λ z. r .none (rw p z);
+    }
 
 -- OF THE CALLS. An accepted search answers the numbers of its trace and reports its positions; neither names a work room, what it held or how it is laid out.
 pub record Answered (ws : List Window) (d : List ℕ) (r : Answer) (d′ : List ℕ) : Type 0 where
@@ -86,6 +119,8 @@ pub record Agreed (x y d : List ℕ) (p q : Answer) (d₁ d₂ : List ℕ) : Typ
   pub places : d₂ ≡ reported (occurrences x y) d
   pub same-places : d₁ ≡ d₂
   pub same-windows : q .windows ≡ p .windows
+  pub same-closest : q .closest ≡ p .closest
+  pub same-place : q .«closest_at» ≡ p .«closest_at»
   pub never-more : q .comparisons ≤ p .comparisons
   pub bound : q .comparisons ≤ 2 * length y - length x + 1
 
@@ -99,6 +134,7 @@ agreed {x} {y} {t} {e} {d} {p} {q} {t₁} {d₁} {t₂} {e₂} {d₂} u v zp zq 
     let some : 1 ≤ length x = accepted (length x) (length y) (length t) (length x) refl k .some in
     let D : Demand3 x y = demand3 x y some fits in
     let F : Demand2 x y = demand2 x y some in
+    let C : Close x y = close x y some in
     let w : length (remembering x y) ≡ length (plain x y) =
     sym (length-map (remembering x y) visit) ∙ ap length (D .same-windows) ∙ length-map (plain x y) visit in
     let P : d₁ ≡ reported (occurrences x y) d = a .places ∙ ap (λ (l : List ℕ). reported l d) (F .plainly) in
@@ -110,6 +146,8 @@ agreed {x} {y} {t} {e} {d} {p} {q} {t₁} {d₁} {t₂} {e₂} {d₂} u v zp zq 
       places = Q;
       same-places = P ∙ sym Q;
       same-windows = ap (λ (r : Answer). r .windows) (b .numbers) ∙ w ∙ sym (ap (λ (r : Answer). r .windows) (a .numbers));
+      same-closest = ap (λ (r : Answer). r .closest) (b .numbers) ∙ C .same-closest ∙ sym (ap (λ (r : Answer). r .closest) (a .numbers));
+      same-place = ap (λ (r : Answer). r .«closest_at») (b .numbers) ∙ C .same-place ∙ sym (ap (λ (r : Answer). r .«closest_at») (a .numbers));
       never-more = omega (arith, D .never-more, ap (λ (r : Answer). r .comparisons) (a .numbers), ap (λ (r : Answer). r .comparisons) (b .numbers));
       bound = omega (arith, D .bound, ap (λ (r : Answer). r .comparisons) (b .numbers));
     }

@@ -9,10 +9,11 @@ use Rattle.tables.specs.Suffix.{endsAlike, suffixAt, suffixTable}
 use Rattle.tables.specs.Shift.{fitsNear, fitsFar, fits, shiftAt, shiftTable}
 use Rattle.tables.specs.Occurrence.{standsAt, occurrenceAt, occurrenceTable}
 use Rattle.tables.specs.Figures as tables
-use Rattle.scans.specs.Trace.{comparisons, positions}
+use Rattle.scans.specs.Trace.{Window, comparisons, positions}
 use Rattle.scans.specs.Move.{move}
 use Rattle.scans.specs.Plain.{plainFrom, plainScan, plain}
 use Rattle.scans.specs.Remember.{rule, memFrom, remember, memScan, remembering}
+use Rattle.scans.specs.Closeness.{endsEqual, trailing, closest, firstTelling, closestAt}
 use Rattle.scans.specs.Occurrences.{occursAt, occursFrom, occurrences}
 
 abbrev a : ℕ
@@ -105,6 +106,35 @@ rows =
       remembered = 0;
     }
     ∷ []
+
+-- How close the scans come on these rows, of which the document says nothing: what the windows tell in either scan and in truth, the greatest of it, and
+-- where the first window with the greatest starts.
+told : Row → List (List ℕ)
+told r =
+    let p = plain (r .probe) (r .stream) in
+    let q = remembering (r .probe) (r .stream) in
+    map (λ (w : Window). w .equal) p
+    ∷ map (λ (w : Window). w .equal) q
+    ∷ map (λ (w : Window). trailing (r .probe) (r .stream) (w .start)) q
+    ∷ (closest p ∷ closest q ∷ [])
+    ∷ (closestAt p ∷ closestAt q ∷ [])
+    ∷ []
+
+-- the same numbers, greatest and place, of both scans
+alike : List ℕ → ℕ → ℕ → List (List ℕ)
+alike ns greatest place = ns ∷ ns ∷ ns ∷ (greatest ∷ greatest ∷ []) ∷ (place ∷ place ∷ []) ∷ []
+
+-- In the fifth row the last window stops without a comparison: 3 bytes are equal there, and 2 is stored.
+close : map told rows
+    ≡ alike (4 ∷ 4 ∷ 4 ∷ []) 4 0
+    ∷ alike (4 ∷ 4 ∷ []) 4 0
+    ∷ alike (0 ∷ 3 ∷ 4 ∷ []) 4 3
+    ∷ alike (2 ∷ 4 ∷ []) 4 1
+    ∷ alike (2 ∷ 3 ∷ []) 3 2
+    ∷ alike [] 0 0
+    ∷ []
+unfolding rows told alike table same least greatest endsAlike suffixAt suffixTable fitsNear fitsFar fits shiftAt shiftTable standsAt occurrenceAt occurrenceTable move plainFrom plainScan plain rule memFrom remember memScan remembering endsEqual trailing closest firstTelling
+close = refl
 
 eleven : List Starred
 eleven = map ofTables tables.rows ++ map ofScans rows

@@ -12,11 +12,12 @@ use lib.ListN.{length}
 use Rattle.basics.specs.laws.Tests.{bool-case, eqb-case, ltb-case}
 use Rattle.basics.specs.laws.Endings.{longest-is}
 use Rattle.scans.specs.declared.closeness.Closest.{Closest}
-use Rattle.scans.specs.Trace.{End, matched, stopped, Pass, equalBy, Window, Visit, visit}
+use Rattle.scans.specs.Trace.{End, matched, stopped, Pass, equalBy, Window, positions, Visit, visit}
 use Rattle.scans.specs.Move.{move}
 use Rattle.scans.specs.Plain.{plainFrom, plainPass, plainScan}
 use Rattle.scans.specs.Remember.{memScan}
-use Rattle.scans.specs.Closeness.{endsEqual, trailing, closest, firstTelling, closestAt}
+use Rattle.scans.specs.Occurrences.{firstOf}
+use Rattle.scans.specs.Closeness.{endsEqual, trailing, Truly, closest, firstTelling, closestAt}
 use Rattle.scans.specs.inside.Closest.{closestOf, closerBy}
 use Rattle.scans.specs.laws.Plain.{plain-step, plain-done}
 use Rattle.scans.specs.laws.Remember.{mem-step, mem-done}
@@ -52,11 +53,8 @@ module _ (x y : List ℕ) (j : ℕ) where
       (λ (l : equalAt x y j (length x) < length x). stops (length x) l)
       (eq-or-lt-of-le (run-le-right y x (j + length x) (length x)))
 
--- each window of the trace tells the true number
-abbrev pub True : List ℕ → List ℕ → List Window → Type 0
-True x y ws = map (λ (w : Window). w .equal) ws ≡ map (λ (w : Window). trailing x y (w .start)) ws
-
-pub plain-true : (x y : List ℕ) (f j : ℕ) → True x y (plainScan x y f j)
+-- each window of the plain scan tells it
+pub plain-true : (x y : List ℕ) (f j : ℕ) → Truly x y (plainScan x y f j)
 unfolding plainScan
 plain-true x y zero j = refl
 plain-true x y (suc f) j =
@@ -67,6 +65,38 @@ plain-true x y (suc f) j =
     rw (plain-step x y f j l) (λ k. e k ∷ plain-true x y f (j + move x y j (p .end)) k))
     (λ l. rw (plain-done x y f j l))
 
+-- A MATCH AND NONE. Of a trace that reports a position: the closest window has all m bytes equal, and the first such window is the first reported. Of one that
+-- reports none: fewer are equal
+pub record Reaching (m : ℕ) (ws : List Window) : Type 0 where
+  pub most : closest ws ≤ m
+  pub hit : 1 ≤ length (positions ws) → (closest ws ≡ m) × (firstTelling m ws ≡ firstOf (positions ws))
+  pub none : length (positions ws) ≡ 0 → closest ws < m
+
+reaching-none : {m : ℕ} → 1 ≤ m → Reaching m []
+unfolding closest positions
+reaching-none l = record { most = omega arith; hit = λ h. absurd (omega arith); none = λ z. omega arith }
+
+reaching-more : {m : ℕ} {ws : List Window} (j c : ℕ) (e : End) → 1 ≤ m → Reaching m ws → Reaching m (record { start = j; end = e; comps = c; equal = equalBy m e } ∷ ws)
+unfolding closest positions firstTelling
+reaching-more {m} {ws} j c matched l r =
+    record { most = omega (arith, r .most); hit = λ h. (omega (arith, r .most), rw (eq-eqb m m refl)); none = λ z. absurd (omega arith) }
+reaching-more {m} {ws} j c (stopped i) l r =
+    record {
+      most = omega (arith, r .most);
+      hit = λ h. let q = r .hit h in (omega (arith, q .0), rw (ne-eqb (m - 1 - i) m (λ e. omega arith)) (q .1));
+      none = λ z. omega (arith, r .none z);
+    }
+
+pub plain-reaches : (x y : List ℕ) → 1 ≤ length x → (f j : ℕ) → Reaching (length x) (plainScan x y f j)
+unfolding plainScan
+plain-reaches x y some zero j = reaching-none some
+plain-reaches x y some (suc f) j =
+    fits-case x y j _
+    (λ l.
+    let p : Pass = plainPass x y j in
+    rw (plain-step x y f j l) (reaching-more j (p .comps) (p .end) some (plain-reaches x y some f (j + move x y j (p .end)))))
+    (λ l. rw (plain-done x y f j l) (reaching-none some))
+
 -- WHAT HANGS ON THE VISITS ALONE
 by-visit : (f : Visit → ℕ) (ws : List Window) → map (λ (w : Window). f (visit w)) ws ≡ map f (map visit ws)
 by-visit f [] = refl
@@ -75,7 +105,7 @@ by-visit f (w ∷ ws) = ap (λ (l : List ℕ). f (visit w) ∷ l) (by-visit f ws
 alike : (f : Visit → ℕ) (vs ws : List Window) → map visit vs ≡ map visit ws → map (λ (w : Window). f (visit w)) vs ≡ map (λ (w : Window). f (visit w)) ws
 alike f vs ws e = by-visit f vs ∙ ap (map f) e ∙ sym (by-visit f ws)
 
-pub same-true : (x y : List ℕ) (vs ws : List Window) → map visit vs ≡ map visit ws → True x y ws → True x y vs
+pub same-true : (x y : List ℕ) (vs ws : List Window) → map visit vs ≡ map visit ws → Truly x y ws → Truly x y vs
 same-true x y vs ws e t = alike (λ v. v .equal) vs ws e ∙ t ∙ sym (alike (λ v. trailing x y (v .start)) vs ws e)
 
 closestBy : List Visit → ℕ
