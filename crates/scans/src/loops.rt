@@ -111,13 +111,14 @@ fn through(
         if met.equal {
             let w = windows::remembering(x, y, tables, mem, p, top, count);
             let left = w.left;
+            let kept = w.kept;
             count = w.count;
             // The next window waits for the move alone, so the move comes before the notes.
             let d = moves::by(x, y, tables, occ, j, left);
             let next = memory::on(m, p, d);
             hits = hits::note(room, hits, step, j, left);
             closest = closeness::after(closest, m, left, j);
-            top = memory::keep(mem, m, p, top, w.kept);
+            top = memory::keep(mem, m, p, top, kept);
             p = next;
         } else {
             // Most windows stop here, with nothing to note.
