@@ -8,7 +8,7 @@
 //! | Module | Documents 01 and 02 |
 //! |---|---|
 //! | [`tables`] | Tables of a probe; request Nine: both in one room |
-//! | [`scans`] | The two scans |
+//! | [`scans`] | The two scans; request Four: how close they came |
 //! | [`log`] | Draw log |
 //! | [`check`] | Overlap check |
 //! | [`listing`] | Overlap check: what `overlap` prints |

@@ -52,12 +52,15 @@ pub struct Probe {
     pub occurrence: [u32; 256],
 }
 
-/// What a scan did: where it found the probe, how many windows it visited, how often it compared.
+/// What a scan did: where it found the probe, how many windows it visited, how often it compared, and how close it
+/// came: the most trailing bytes that were equal at a window, and where the first such window starts.
 #[derive(Debug, Clone, PartialEq, Eq, Default)]
 pub struct Scan {
     pub positions: Vec<u32>,
     pub windows: u64,
     pub comparisons: u64,
+    pub closest: u64,
+    pub closest_at: u64,
 }
 
 /// How a window ended.
@@ -71,6 +74,11 @@ enum End {
 pub fn positions(x: &[u8], y: &[u8]) -> Vec<u32> {
     let found = y.windows(x.len()).enumerate().filter(|(_, window)| *window == x);
     found.map(|(j, _)| position(j)).collect()
+}
+
+/// How many trailing bytes of x equal y at j, by a look at them that counts for no scan.
+pub fn trailing_equal(x: &[u8], y: &[u8], j: usize) -> u64 {
+    tables::longest_common_suffix(x, &y[j..j + x.len()]) as u64
 }
 
 impl Probe {
@@ -100,6 +108,7 @@ impl Probe {
         while j + self.length() <= y.len() {
             let end = self.plain_window(y, j, &mut scan.comparisons);
             scan.leave_window(j, end);
+            scan.note_closeness(j, trailing_equal(&self.x, y, j));
             j += self.movement(y, j, end);
         }
         scan
@@ -113,6 +122,7 @@ impl Probe {
         while j + self.length() <= y.len() {
             let (end, kept) = self.remembering_window(y, j, &remembered, &mut scan.comparisons);
             scan.leave_window(j, end);
+            scan.note_closeness(j, trailing_equal(&self.x, y, j));
             remembered[j + self.length() - 1] = kept;
             j += self.movement(y, j, end);
         }
@@ -178,6 +188,14 @@ impl Scan {
         self.windows += 1;
         if let End::Matched = end {
             self.positions.push(position(j));
+        }
+    }
+
+    /// The first window is at 0; so where no window has an equal byte, both numbers stay 0.
+    fn note_closeness(&mut self, j: usize, equal: u64) {
+        if equal > self.closest {
+            self.closest = equal;
+            self.closest_at = j as u64;
         }
     }
 }

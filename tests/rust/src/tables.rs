@@ -57,7 +57,8 @@ pub fn period(x: &[u8]) -> u32 {
     number(smallest.expect("m is a period"))
 }
 
-fn longest_common_suffix(u: &[u8], v: &[u8]) -> usize {
+/// The length of the longest word that both end in.
+pub fn longest_common_suffix(u: &[u8], v: &[u8]) -> usize {
     u.iter().rev().zip(v.iter().rev()).take_while(|(a, b)| a == b).count()
 }
 
