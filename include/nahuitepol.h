@@ -69,6 +69,8 @@ typedef struct {
     uint64_t written;     /* positions written: the smaller of occurrences and positions_len */
     uint64_t windows;     /* windows visited */
     uint64_t comparisons; /* comparisons of a stream byte with a probe byte */
+    uint64_t closest;     /* most trailing probe bytes that equal the stream at one of the windows visited */
+    uint64_t closest_at;  /* where the first window that reached it starts; with no window both are 0 */
 } nahui_searched;
 
 /* The answer of the log test. */
@@ -136,15 +138,20 @@ nahui_occurrences nahui_occurrence(const uint8_t *probe, size_t probe_len);
 
 /*
  * The searches: all positions of a probe of m = probe_len bytes, 1 to 4,096, in a stream of n = stream_len
- * bytes, 0 to 16,777,216. The refusal is 0, 1, 2, 3 or 4. Both find the same positions at the same windows;
- * the remembering scan never makes more comparisons than the plain one, and for n >= m at most 2n - m + 1.
+ * bytes, 0 to 16,777,216. The refusal is 0, 1, 2, 3 or 4. Both find the same positions at the same windows, and
+ * with position rooms of one length they answer equal numbers but for the comparisons; the remembering scan
+ * never makes more of these than the plain one, and for n >= m at most 2n - m + 1.
+ *
+ * Both tell how close they came: closest is the greatest number, over the windows visited, of trailing probe
+ * bytes that equal the stream there, and closest_at is where the first window that reached it starts. So where
+ * the probe occurs they are m and its first position. An offset that the scan passes over does not count.
  *
  *   tables      work room of at least 2m numbers; ends with the pairs of nahui_tables in its first 2m numbers
  *   memory      work room of at least m entries; ends with 0 in its first m entries
  *   positions   takes the first positions, ascending, as far as it reaches; it may have any length, and entries
  *               beyond those written stay as they were
  *
- * For n < m the search succeeds: the rooms end as said, and the four numbers are 0.
+ * For n < m the search succeeds: the rooms end as said, and the six numbers are 0.
  */
 
 /* Searches by the plain Boyer-Moore scan. */

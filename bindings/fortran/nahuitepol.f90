@@ -47,10 +47,12 @@ module nahuitepol
     integer(c_int32_t) :: table(0:255)
   end type nahui_occurrences
 
-  !> The answer of a search. A search has no entries: entry is always 0.
+  !> The answer of a search. A search has no entries: entry is always 0. closest is the greatest number, over the
+  !> windows visited, of trailing probe bytes that equal the stream there, and closest_at, from 0, is where the
+  !> first window that reached it starts; with no window both are 0.
   type, public, bind(c) :: nahui_searched
     integer(c_int32_t) :: refusal, entry
-    integer(c_int64_t) :: occurrences, written, windows, comparisons
+    integer(c_int64_t) :: occurrences, written, windows, comparisons, closest, closest_at
   end type nahui_searched
 
   !> The answer of the log test: the number of replicates.
@@ -212,8 +214,8 @@ contains
         tables, size(tables, kind=c_size_t), positions, size(positions, kind=c_size_t))
   end function nahui_plain
 
-  !> Searches the stream for the probe by the remembering scan: as nahui_plain, with the same positions and never
-  !> more comparisons. The memory room needs an entry for each byte of the probe.
+  !> Searches the stream for the probe by the remembering scan: as nahui_plain, with the same answer but for the
+  !> comparisons, which are never more. The memory room needs an entry for each byte of the probe.
   function nahui_remember(probe, stream, tables, memory, positions) result(answer)
     integer(c_int8_t), intent(in), contiguous :: probe(:), stream(:)
     integer(c_int16_t), intent(inout), contiguous :: tables(:)

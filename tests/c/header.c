@@ -10,9 +10,11 @@
 
 static_assert(sizeof(nahui_occurrences) == 257 * 4, "occurrences");
 static_assert(offsetof(nahui_occurrences, table) == 4, "occurrences");
-static_assert(sizeof(nahui_searched) == 40, "searched");
+static_assert(sizeof(nahui_searched) == 56, "searched");
 static_assert(offsetof(nahui_searched, occurrences) == 8, "searched");
 static_assert(offsetof(nahui_searched, comparisons) == 32, "searched");
+static_assert(offsetof(nahui_searched, closest) == 40, "searched");
+static_assert(offsetof(nahui_searched, closest_at) == 48, "searched");
 static_assert(sizeof(nahui_tested) == 12, "tested");
 static_assert(sizeof(nahui_found) == 16, "found");
 static_assert(sizeof(nahui_written) == 12, "written");

@@ -61,6 +61,11 @@ pub struct Searched {
     pub windows: u64,
     /// Comparisons of a stream byte with a probe byte.
     pub comparisons: u64,
+    /// The greatest number, over the windows visited, of trailing probe bytes that equal the stream there; 0 with no
+    /// window.
+    pub closest: u64,
+    /// Where the first window that reached it starts; 0 with no window.
+    pub closest_at: u64,
 }
 
 /// The answer of the log test.
@@ -187,6 +192,14 @@ pub fn occurrence(probe: &[u8]) -> Occurrences {
 /// assert_eq!(tables, [0, 2, 2, 2, 0, 4, 4, 1, 7]);
 /// assert_eq!(positions, [0, 2, 9]);
 /// ```
+///
+/// The answer also tells how close the scan came, by the windows that it visits. Here the probe does not occur, but
+/// its last three bytes do; the first window that meets them is at byte 2:
+///
+/// ```
+/// let answer = nahuitepol::plain(b"random", b"a wisdom, a freedom", &mut [0; 12], &mut []);
+/// assert_eq!((answer.occurrences, answer.closest, answer.closest_at), (0, 3, 2));
+/// ```
 #[inline]
 pub fn plain(probe: &[u8], stream: &[u8], tables: &mut [u16], positions: &mut [u32]) -> Searched {
     // SAFETY: pointers and counts are those of live slices, and the borrows keep the rooms apart from each other
@@ -207,14 +220,18 @@ pub fn plain(probe: &[u8], stream: &[u8], tables: &mut [u16], positions: &mut [u
 
 /// Searches the stream for the probe by the remembering scan. The refusal is 0, 1, 2, 3 or 4.
 ///
-/// As [`plain`], with the same positions and windows and never more comparisons. The memory room needs an entry for
-/// each byte of the probe; these end at 0.
+/// As [`plain`], with the same positions and the same answer but for the comparisons, which are never more. The
+/// memory room needs an entry for each byte of the probe; these end at 0.
 ///
 /// ```
 /// let mut memory = [9; 5];
 /// let answer = nahuitepol::remember(b"abab", b"ababab", &mut [0; 8], &mut memory, &mut []);
 /// assert_eq!((answer.occurrences, answer.written, answer.comparisons), (2, 0, 6));
 /// assert_eq!(memory, [0, 0, 0, 0, 9]);
+///
+/// // The probe almost occurs: only its first byte differs.
+/// let answer = nahuitepol::remember(b"abab", b"bbab", &mut [0; 8], &mut memory, &mut []);
+/// assert_eq!((answer.occurrences, answer.closest, answer.closest_at), (0, 3, 0));
 /// ```
 #[inline]
 pub fn remember(

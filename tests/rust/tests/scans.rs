@@ -1,16 +1,24 @@
 //! Both scans, compared with a search at every position and with their own steps: positions, windows,
-//! comparisons, every room, and what the calls refuse.
+//! comparisons, how close they came, every room, and what the calls refuse.
 
 use std::fmt::{self, Display, Formatter};
 
 use nahuitepol::Searched;
 use nahuitepol_tests::rooms::Room;
-use nahuitepol_tests::scans::{self, positions, Probe, Scan, Work, LONGEST_STREAM};
+use nahuitepol_tests::scans::{self, positions, trailing_equal, Probe, Scan, Work, LONGEST_STREAM};
 use nahuitepol_tests::words::{all_words_between, fibonacci, repeated, worst_probe, Generator};
 
 /// An answer in which every number is 0.
-const ZEROS: Searched =
-    Searched { refusal: 0, entry: 0, occurrences: 0, written: 0, windows: 0, comparisons: 0 };
+const ZEROS: Searched = Searched {
+    refusal: 0,
+    entry: 0,
+    occurrences: 0,
+    written: 0,
+    windows: 0,
+    comparisons: 0,
+    closest: 0,
+    closest_at: 0,
+};
 
 #[derive(Debug, Clone, Copy, PartialEq, Eq)]
 enum Scanner {
@@ -90,7 +98,14 @@ fn expected_answer(scan: &Scan, position_room: usize) -> Searched {
         written: occurrences.min(position_room) as u64,
         windows: scan.windows,
         comparisons: scan.comparisons,
+        closest: scan.closest,
+        closest_at: scan.closest_at,
     }
+}
+
+/// How close a search came, and where.
+fn closeness(answer: Searched) -> (u64, u64) {
+    (answer.closest, answer.closest_at)
 }
 
 /// A search, for messages.
@@ -118,29 +133,46 @@ fn compare_in(mut rooms: Rooms, scanner: Scanner, probe: &Probe, y: &[u8]) -> Se
     let answer = rooms.search(scanner, &probe.x, y);
     assert_eq!(answer, expected_answer(&scan, rooms.positions.length()), "{case}");
     assert!(scan.positions == positions(&probe.x, y), "the steps miss a position: {case}");
+    assert_closeness(&case, scan.positions.first(), answer);
     rooms.assert_after_success(case, probe, &scan.positions[..answer.written as usize]);
     answer
 }
 
-/// Both searches, each with work rooms that are longer than needed by `slack`.
-fn compare(probe: &Probe, y: &[u8], slack: usize, position_room: usize) {
+/// Both searches, each with work rooms that are longer than needed by `slack`. Answers how close both came.
+fn compare(probe: &Probe, y: &[u8], slack: usize, position_room: usize) -> (u64, u64) {
     let rooms = Rooms::new(Work::exact(probe.length()).longer(slack, slack), position_room);
     let plain = compare_in(rooms.clone(), Plain, probe, y);
     let remembering = compare_in(rooms, Remembering, probe, y);
     assert_demand_3(probe.length(), y.len(), plain, remembering);
+    closeness(remembering)
 }
 
-fn compare_words(x: &[u8], y: &[u8]) {
-    compare(&Probe::new(x), y, 2, y.len());
+fn compare_words(x: &[u8], y: &[u8]) -> (u64, u64) {
+    compare(&Probe::new(x), y, 2, y.len())
 }
 
-/// Same windows and positions, never more comparisons than the plain scan, at most 2n − m + 1.
+/// Equal numbers but for the comparisons; of these never more than the plain scan, and at most 2n − m + 1.
 fn assert_demand_3(m: usize, n: usize, plain: Searched, remembering: Searched) {
-    assert_eq!(remembering.windows, plain.windows);
-    assert_eq!(remembering.occurrences, plain.occurrences);
+    assert_eq!(Searched { comparisons: plain.comparisons, ..remembering }, plain);
     assert!(remembering.comparisons <= plain.comparisons);
     if n >= m {
         assert!(remembering.comparisons <= (2 * n - m + 1) as u64);
+    }
+}
+
+/// What has to hold of how close a scan came, whatever its windows are: with a hit it is m at the first one, without
+/// it is less; and just so many bytes are equal there.
+fn assert_closeness(case: &Case, first_hit: Option<&u32>, answer: Searched) {
+    let m = case.x.len();
+    match first_hit {
+        Some(&first) => assert_eq!(closeness(answer), (m as u64, first.into()), "{case}"),
+        None => assert!(answer.closest < m as u64, "{case}"),
+    }
+    if case.y.len() < m {
+        assert_eq!(closeness(answer), (0, 0), "{case}");
+    } else {
+        let equal = trailing_equal(case.x, case.y, answer.closest_at as usize);
+        assert_eq!(answer.closest, equal, "{case}");
     }
 }
 
@@ -152,14 +184,22 @@ fn expect_refusal(scanner: Scanner, x: &[u8], y: &[u8], work: Work, number: u32)
     rooms.assert_untouched(case);
 }
 
-/// A row: probe, stream; positions, windows, plain and remembering comparisons.
-fn figure(x: &[u8], y: &[u8], found: &[u32], windows: u64, plain: u64, remembering: u64) {
+/// A row: probe, stream; positions, windows, plain and remembering comparisons, how close both came and where.
+fn figure(
+    x: &[u8],
+    y: &[u8],
+    found: &[u32],
+    windows: u64,
+    plain: u64,
+    remembering: u64,
+    (closest, closest_at): (u64, u64),
+) {
     for (scanner, comparisons) in [(Plain, plain), (Remembering, remembering)] {
         let mut rooms = Rooms::new(Work::exact(x.len()), found.len() + 1);
         let answer = rooms.search(scanner, x, y);
         let occurrences = found.len() as u64;
-        let expected =
-            Searched { refusal: 0, entry: 0, occurrences, written: occurrences, windows, comparisons };
+        let written = occurrences;
+        let expected = Searched { occurrences, written, windows, comparisons, closest, closest_at, ..ZEROS };
         let case = Case { scanner, x, y };
         assert_eq!(answer, expected, "{case}");
         assert!(rooms.positions.holds_just(found), "{case}");
@@ -169,34 +209,34 @@ fn figure(x: &[u8], y: &[u8], found: &[u32], windows: u64, plain: u64, rememberi
 
 #[test]
 fn the_six_rows_of_document_01() {
-    figure(b"aaaa", b"aaaaaa", &[0, 1, 2], 3, 12, 6);
-    figure(b"abab", b"ababab", &[0, 2], 2, 8, 6);
-    figure(b"abab", b"abbabab", &[3], 3, 9, 7);
-    figure(b"caaa", b"xcaaa", &[1], 2, 7, 5);
-    figure(b"caaa", b"xbaaaa", &[], 2, 7, 5);
-    figure(b"aab", b"aa", &[], 0, 0, 0);
+    figure(b"aaaa", b"aaaaaa", &[0, 1, 2], 3, 12, 6, (4, 0));
+    figure(b"abab", b"ababab", &[0, 2], 2, 8, 6, (4, 0));
+    figure(b"abab", b"abbabab", &[3], 3, 9, 7, (4, 3));
+    figure(b"caaa", b"xcaaa", &[1], 2, 7, 5, (4, 1));
+    figure(b"caaa", b"xbaaaa", &[], 2, 7, 5, (3, 2));
+    figure(b"aab", b"aa", &[], 0, 0, 0, (0, 0));
 }
 
 #[test]
 fn a_remembered_length_does_not_outlive_its_place() {
-    figure(b"a", b"ab", &[0], 2, 2, 2);
+    figure(b"a", b"ab", &[0], 2, 2, 2, (1, 0));
 }
 
 #[test]
 fn the_shorter_length_is_kept_after_the_fourth_rule() {
-    figure(b"aaabaabaa", b"aaaaaabaaabaabaa", &[7], 4, 23, 14);
+    figure(b"aaabaabaa", b"aaaaaabaaabaabaa", &[7], 4, 23, 14, (9, 7));
 }
 
 #[test]
 fn a_remembered_length_below_the_suffix_entry_does_not_stop_the_window() {
-    figure(b"aabaa", b"aaababaa", &[], 3, 8, 7);
+    figure(b"aabaa", b"aaababaa", &[], 3, 8, 7, (4, 3));
 }
 
 #[test]
 fn equal_bytes_searched_for_their_first_256() {
     let stream = vec![0; 61_440];
     let found: Vec<u32> = (0..61_185).collect();
-    figure(&stream[..256], &stream, &found, 61_185, 15_663_360, 61_440);
+    figure(&stream[..256], &stream, &found, 61_185, 15_663_360, 61_440, (256, 0));
 }
 
 #[test]
@@ -296,7 +336,7 @@ fn equal_bytes_are_compared_m_times_a_window_plainly_and_once_each_with_memory()
             let stream = vec![b'a'; n];
             let found: Vec<u32> = (0..=(n - m) as u32).collect();
             let windows = found.len() as u64;
-            figure(&stream[..m], &stream, &found, windows, windows * m as u64, n as u64);
+            figure(&stream[..m], &stream, &found, windows, windows * m as u64, n as u64, (m as u64, 0));
         }
     }
 }
@@ -331,15 +371,16 @@ fn all_byte_values_are_told_apart() {
 }
 
 #[test]
-fn a_stream_shorter_than_the_probe_leaves_tables_zeros_and_four_zero_numbers() {
+fn a_stream_shorter_than_the_probe_leaves_tables_zeros_and_six_zero_numbers() {
     let mut generator = Generator::new(15);
     for m in [1, 2, 3, 17, 256, 4_096] {
         let probe = Probe::new(&generator.word(2, m));
         for n in [0, m / 2, m - 1] {
-            for scanner in BOTH {
-                let rooms = Rooms::new(Work::exact(m).longer(1, 1), 3);
-                let answer = compare_in(rooms, scanner, &probe, &probe.x[..n]);
-                assert_eq!(answer, ZEROS, "m {m}, n {n}");
+            for y in [&probe.x[..n], &probe.x[m - n..]] {
+                for scanner in BOTH {
+                    let rooms = Rooms::new(Work::exact(m).longer(1, 1), 3);
+                    assert_eq!(compare_in(rooms, scanner, &probe, y), ZEROS, "m {m}, n {n}");
+                }
             }
         }
     }
@@ -353,6 +394,7 @@ fn a_stream_as_long_as_the_probe_has_one_window() {
         for scanner in BOTH {
             let answer = compare_in(Rooms::new(Work::exact(m), 1), scanner, &probe, &probe.x);
             assert_eq!((answer.occurrences, answer.windows, answer.comparisons), (1, 1, m as u64));
+            assert_eq!(closeness(answer), (m as u64, 0));
         }
     }
 }
@@ -448,6 +490,8 @@ fn demand_3_on_the_answers_alone() {
         let remembering = remembering_rooms.search(Remembering, &x, &y);
         assert_eq!((plain.refusal, remembering.refusal), (0, 0));
         assert_demand_3(m, n, plain, remembering);
+        let first_hit = remembering_rooms.positions.lend()[..remembering.written as usize].first();
+        assert_closeness(&Case { scanner: Remembering, x: &x, y: &y }, first_hit, remembering);
         assert!(plain_rooms.positions.lend() == remembering_rooms.positions.lend(), "positions");
     }
 }
@@ -479,8 +523,8 @@ fn equal_bytes_at_the_greatest_length_pass_2_to_the_32_comparisons() {
     for (scanner, comparisons) in [(Plain, windows * m as u64), (Remembering, LONGEST_STREAM as u64)] {
         let mut rooms = Rooms::new(Work::exact(m), 3);
         let answer = rooms.search(scanner, &stream[..m], &stream);
-        let expected =
-            Searched { refusal: 0, entry: 0, occurrences: windows, written: 3, windows, comparisons };
+        let closest = m as u64;
+        let expected = Searched { occurrences: windows, written: 3, windows, comparisons, closest, ..ZEROS };
         assert_eq!(answer, expected, "{scanner:?} scan");
         assert!(rooms.positions.holds_just(&[0, 1, 2]), "{scanner:?} scan");
     }
