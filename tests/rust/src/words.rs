@@ -43,6 +43,16 @@ impl Generator {
         let start = self.below(y.len() - length + 1);
         y[start..start + length].to_vec()
     }
+
+    /// The word with as many flaws as said: letters anywhere, which may be the ones that stood there.
+    pub fn flawed(&mut self, word: &[u8], letters: usize, flaws: usize) -> Vec<u8> {
+        let mut flawed = word.to_vec();
+        for _ in 0..flaws {
+            let place = self.below(word.len());
+            flawed[place] = self.below(letters) as u8;
+        }
+        flawed
+    }
 }
 
 /// All words of this length over the letters a, b, ..
@@ -61,6 +71,13 @@ pub fn all_words(letters: usize, length: usize) -> impl Iterator<Item = Vec<u8>>
 /// All words of these lengths over the letters a, b, ..
 pub fn all_words_between(letters: usize, least: usize, most: usize) -> impl Iterator<Item = Vec<u8>> {
     (least..=most).flat_map(move |length| all_words(letters, length))
+}
+
+/// The word with another byte at this place.
+pub fn with_byte(word: &[u8], place: usize, byte: u8) -> Vec<u8> {
+    let mut changed = word.to_vec();
+    changed[place] = byte;
+    changed
 }
 
 /// The front of the word repeated for ever.

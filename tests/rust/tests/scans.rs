@@ -6,7 +6,9 @@ use std::fmt::{self, Display, Formatter};
 use nahuitepol::Searched;
 use nahuitepol_tests::rooms::Room;
 use nahuitepol_tests::scans::{self, positions, trailing_equal, Probe, Scan, Work, LONGEST_STREAM};
-use nahuitepol_tests::words::{all_words_between, fibonacci, repeated, worst_probe, Generator};
+use nahuitepol_tests::words::{
+    all_words, all_words_between, fibonacci, repeated, with_byte, worst_probe, Generator,
+};
 
 /// An answer in which every number is 0.
 const ZEROS: Searched = Searched {
@@ -133,7 +135,7 @@ fn compare_in(mut rooms: Rooms, scanner: Scanner, probe: &Probe, y: &[u8]) -> Se
     let answer = rooms.search(scanner, &probe.x, y);
     assert_eq!(answer, expected_answer(&scan, rooms.positions.length()), "{case}");
     assert!(scan.positions == positions(&probe.x, y), "the steps miss a position: {case}");
-    assert_closeness(&case, scan.positions.first(), answer);
+    assert_closeness(&case, scan.positions.first().copied(), answer);
     rooms.assert_after_success(case, probe, &scan.positions[..answer.written as usize]);
     answer
 }
@@ -162,10 +164,10 @@ fn assert_demand_3(m: usize, n: usize, plain: Searched, remembering: Searched) {
 
 /// What has to hold of how close a scan came, whatever its windows are: with a hit it is m at the first one, without
 /// it is less; and just so many bytes are equal there.
-fn assert_closeness(case: &Case, first_hit: Option<&u32>, answer: Searched) {
+fn assert_closeness(case: &Case, first_hit: Option<u32>, answer: Searched) {
     let m = case.x.len();
     match first_hit {
-        Some(&first) => assert_eq!(closeness(answer), (m as u64, first.into()), "{case}"),
+        Some(first) => assert_eq!(closeness(answer), (m as u64, first.into()), "{case}"),
         None => assert!(answer.closest < m as u64, "{case}"),
     }
     if case.y.len() < m {
@@ -320,11 +322,8 @@ fn periodic_probes_in_periodic_streams_with_flaws() {
         let word = generator.word(3, period);
         let m = generator.between(1, 30);
         let n = generator.between(m, 200);
-        let mut y = repeated(&word, n);
-        for _ in 0..generator.between(1, 4) {
-            let place = generator.below(n);
-            y[place] = generator.below(4) as u8;
-        }
+        let flaws = generator.between(1, 4);
+        let y = generator.flawed(&repeated(&word, n), 4, flaws);
         compare_words(&repeated(&word, m), &y);
     }
 }
@@ -490,9 +489,29 @@ fn demand_3_on_the_answers_alone() {
         let remembering = remembering_rooms.search(Remembering, &x, &y);
         assert_eq!((plain.refusal, remembering.refusal), (0, 0));
         assert_demand_3(m, n, plain, remembering);
-        let first_hit = remembering_rooms.positions.lend()[..remembering.written as usize].first();
-        assert_closeness(&Case { scanner: Remembering, x: &x, y: &y }, first_hit, remembering);
         assert!(plain_rooms.positions.lend() == remembering_rooms.positions.lend(), "positions");
+    }
+}
+
+/// The probe is a stretch of the stream, or one with a flaw.
+#[test]
+fn how_close_both_came_on_the_answers_alone() {
+    let mut generator = Generator::new(27);
+    for flaws in (0..2).cycle().take(400) {
+        let letters = generator.pick(&[1, 2, 4, 256]);
+        let n = generator.between(600, 30_000);
+        let period = generator.pick(&[7, 60, 500, 30_000]);
+        let y = repeated(&generator.word(letters, period), n);
+        let m = generator.between(1, 600);
+        let stretch = generator.stretch(&y, m);
+        let x = generator.flawed(&stretch, 256, flaws);
+        let first_hit = positions(&x, &y).first().copied();
+        let [plain, remembering] = BOTH.map(|scanner| {
+            let answer = Rooms::new(Work::exact(m), 0).search(scanner, &x, &y);
+            assert_closeness(&Case { scanner, x: &x, y: &y }, first_hit, answer);
+            answer
+        });
+        assert_demand_3(m, n, plain, remembering);
     }
 }
 
@@ -527,6 +546,213 @@ fn equal_bytes_at_the_greatest_length_pass_2_to_the_32_comparisons() {
         let expected = Searched { occurrences: windows, written: 3, windows, comparisons, closest, ..ZEROS };
         assert_eq!(answer, expected, "{scanner:?} scan");
         assert!(rooms.positions.holds_just(&[0, 1, 2]), "{scanner:?} scan");
+    }
+}
+
+#[test]
+fn with_a_hit_the_first_one_is_the_closest() {
+    assert_eq!(compare_words(b"abc", b"abcxxx"), (3, 0));
+    assert_eq!(compare_words(b"abc", b"xxxabc"), (3, 3));
+    assert_eq!(compare_words(b"abc", b"xbcabcabcx"), (3, 3));
+    assert_eq!(compare_words(b"a", b"bab"), (1, 1));
+    assert_eq!(compare_words(b"aaa", b"baaaa"), (3, 1));
+}
+
+#[test]
+fn where_the_last_byte_is_never_equal_both_numbers_are_0() {
+    assert_eq!(compare_words(b"a", b"bcd"), (0, 0));
+    assert_eq!(compare_words(b"abc", b"xxxxxxx"), (0, 0));
+    assert_eq!(compare_words(b"abc", b"ababababab"), (0, 0));
+}
+
+#[test]
+fn the_first_of_several_windows_that_come_closest_counts() {
+    for (x, y, closest, windows) in [
+        (&b"aba"[..], &b"abbabba"[..], 2, &[1, 4][..]),
+        (b"abab", b"abbabbabbab", 3, &[1, 4, 7]),
+        (b"random", b"a wisdom, a freedom", 3, &[2, 13]),
+        (b"baa", b"aaaaaaaa", 2, &[0, 3]),
+    ] {
+        assert!(windows.iter().all(|&j| trailing_equal(x, y, j) == closest));
+        assert_eq!(compare_words(x, y), (closest, windows[0] as u64));
+    }
+}
+
+/// By the lengths that the windows leave in the memory the answers would be (2, 0), (3, 0), (4, 4) and (3, 6).
+#[test]
+fn the_number_is_the_true_one_where_the_closest_window_stops_without_a_comparison() {
+    figure(b"baaa", b"acaaaa", &[], 2, 7, 5, (3, 2));
+    figure(b"baaaa", b"acaaaaa", &[], 2, 9, 6, (4, 2));
+    figure(b"babaaa", b"aaabaabaaa", &[], 3, 10, 8, (5, 4));
+    figure(b"baaa", b"acaaaacaaa", &[], 3, 11, 9, (3, 2));
+}
+
+/// In each stream the offset 1 is passed over. In the first two more bytes are equal there than the scans answer; in
+/// the others as many, and before the window that counts.
+#[test]
+fn an_offset_that_is_passed_over_does_not_count() {
+    for (x, y, equal, expected) in [
+        (&b"aa"[..], &b"aba"[..], 1, (0, 0)),
+        (b"aaa", b"abaa", 2, (1, 0)),
+        (b"ba", b"acaa", 1, (1, 2)),
+        (b"aa", b"ababba", 1, (1, 4)),
+    ] {
+        assert_eq!(trailing_equal(x, y, 1), equal);
+        assert_eq!(compare_words(x, y), expected);
+    }
+}
+
+#[test]
+fn a_stream_as_long_as_the_probe_is_as_close_as_their_ends_are_equal() {
+    for m in 1..=6 {
+        for x in all_words(2, m) {
+            for y in all_words(2, m) {
+                assert_eq!(compare_words(&x, &y), (trailing_equal(&x, &y, 0), 0));
+            }
+        }
+    }
+}
+
+#[test]
+fn equal_bytes_searched_for_themselves_with_a_flaw_at_every_place() {
+    for m in 1..=9 {
+        for n in m..=30 {
+            for flaw in 0..m {
+                let x = with_byte(&vec![b'a'; m], flaw, b'b');
+                assert_eq!(compare_words(&x, &vec![b'a'; n]), ((m - 1 - flaw) as u64, 0));
+            }
+        }
+    }
+}
+
+/// The probe occurs before the flaw or behind it, or else the one window has the flaw.
+#[test]
+fn equal_bytes_with_a_flaw_at_every_place_searched_for_themselves() {
+    for m in 1..=9 {
+        for n in m..=30 {
+            for flaw in 0..n {
+                let y = with_byte(&vec![b'a'; n], flaw, b'b');
+                let (closest, closest_at) = if flaw >= m {
+                    (m, 0)
+                } else if flaw + 1 + m <= n {
+                    (m, flaw + 1)
+                } else {
+                    (m - 1 - flaw, 0)
+                };
+                assert_eq!(compare_words(&vec![b'a'; m], &y), (closest as u64, closest_at as u64));
+            }
+        }
+    }
+}
+
+#[test]
+fn equal_bytes_with_a_flaw_at_every_place_in_both() {
+    for m in 1..=7 {
+        for place in 0..m {
+            let probe = Probe::new(&with_byte(&vec![b'a'; m], place, b'b'));
+            for n in m..=20 {
+                for flaw in 0..n {
+                    for byte in [b'b', b'c'] {
+                        compare(&probe, &with_byte(&vec![b'a'; n], flaw, byte), 0, n);
+                    }
+                }
+            }
+        }
+    }
+}
+
+#[test]
+fn flawed_periodic_probes_in_flawed_periodic_streams() {
+    let mut generator = Generator::new(28);
+    for flaws in (0..5).cycle().take(10_000) {
+        let period = generator.between(1, 7);
+        let word = generator.word(3, period);
+        let m = generator.between(1, 30);
+        let n = generator.between(m, 200);
+        let x = generator.flawed(&repeated(&word, m), 4, 1);
+        compare_words(&x, &generator.flawed(&repeated(&word, n), 4, flaws));
+    }
+}
+
+#[test]
+fn noise_searched_for_noise() {
+    let mut generator = Generator::new(29);
+    for letters in [2, 4, 256].repeat(400) {
+        let m = generator.between(1, 60);
+        let n = generator.between(m, 1_500);
+        let x = generator.word(letters, m);
+        compare_words(&x, &generator.word(letters, n));
+    }
+}
+
+#[test]
+fn probes_that_almost_occur() {
+    let mut generator = Generator::new(30);
+    for letters in [2, 4, 256].repeat(300) {
+        let m = generator.between(1, 20);
+        let n = generator.between(m, 120);
+        let y = generator.word(letters, n);
+        let x = generator.stretch(&y, m);
+        for changed in 0..m {
+            compare_words(&with_byte(&x, changed, x[changed] ^ 1), &y);
+        }
+    }
+}
+
+/// No two bytes of the stream are equal; so only at `start` can the probe's last byte be met. Windows come m apart up
+/// to the one that ends in the stretch from `start` on, at index `met` of the probe. That one moves on to `start`, but
+/// where the byte it meets is the changed one, it passes over it.
+#[test]
+fn probes_that_almost_occur_among_bytes_that_all_differ() {
+    let y: Vec<u8> = (1..=40).collect();
+    for m in 1..=12 {
+        for start in 0..=y.len() - m {
+            let met = m - 1 - start % m;
+            for changed in 0..m {
+                let x = with_byte(&y[start..start + m], changed, 0);
+                let nothing_equal = changed == met || changed == m - 1;
+                let (closest, closest_at) = if nothing_equal { (0, 0) } else { (m - 1 - changed, start) };
+                assert_eq!(compare_words(&x, &y), (closest as u64, closest_at as u64));
+            }
+        }
+    }
+}
+
+#[test]
+fn a_probe_of_4096_bytes_that_almost_occurs_in_a_stream_of_16777216() {
+    let mut generator = Generator::new(31);
+    let y = generator.word(4, LONGEST_STREAM);
+    let x = &y[9_000_000..9_004_096];
+    for (changed, expected) in
+        [(0, (4_095, 9_000_000)), (2_048, (2_047, 9_000_000)), (4_095, (11, 7_601_846))]
+    {
+        let probe = Probe::new(&with_byte(x, changed, x[changed] ^ 1));
+        assert_eq!(compare(&probe, &y, 0, 1), expected, "changed at {changed}");
+    }
+}
+
+#[test]
+fn equal_bytes_at_the_greatest_length_searched_for_4096_with_a_flaw() {
+    let y = vec![9; LONGEST_STREAM];
+    for flaw in [0, 2_048, 4_095] {
+        let x = with_byte(&y[..4_096], flaw, 8);
+        for scanner in BOTH {
+            let answer = Rooms::new(Work::exact(4_096), 1).search(scanner, &x, &y);
+            assert_eq!(closeness(answer), (4_095 - flaw as u64, 0), "{scanner:?} scan, flaw at {flaw}");
+        }
+    }
+}
+
+/// The stream's bytes before the last window are not in the probe; so windows come m apart.
+#[test]
+fn the_last_window_of_the_longest_stream_comes_closest() {
+    let x = repeated(&[1, 2, 3, 4, 5, 6, 7], 4_096);
+    let last = LONGEST_STREAM - 4_096;
+    let mut y = vec![0; LONGEST_STREAM];
+    y[last + 1..].copy_from_slice(&x[1..]);
+    for scanner in BOTH {
+        let answer = Rooms::new(Work::exact(4_096), 1).search(scanner, &x, &y);
+        assert_eq!(closeness(answer), (4_095, last as u64), "{scanner:?} scan");
     }
 }
 
