@@ -14,5 +14,9 @@ program search
   answer = nahui_remember(transfer(one(:32), bytes), transfer(other, bytes), tables, memory, positions)
   if (answer%refusal /= 0) error stop 'the search is refused'
   print '(a, i0)', 'places: ', answer%occurrences
-  if (answer%occurrences > 0) print '(a, i0)', 'the first is at draw ', positions(1) / 8 + 1
+  if (answer%occurrences > 0) then
+    print '(a, i0)', 'the first is at draw ', positions(1) / 8 + 1
+  else
+    print '(a, i0, a)', 'trailing bytes equal: up to ', answer%closest, ' of 256'
+  end if
 end program search

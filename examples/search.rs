@@ -1,4 +1,5 @@
-//! search LOG A B: each byte of replicate B's draws at which the first 32 draws of replicate A stand.
+//! search LOG A B: each byte of replicate B's draws at which the first 32 draws of replicate A stand, or how close
+//! the search came.
 use nahuitepol::{log_find, remember, Found};
 use std::{env, error::Error, fs};
 
@@ -18,5 +19,8 @@ fn main() -> Result<(), Box<dyn Error>> {
     let found = remember(probe, searched, &mut tables, &mut memory, &mut positions);
     assert_eq!(found.refusal, 0, "the rooms are large enough");
     println!("{:?}, found with {} comparisons", &positions[..found.written as usize], found.comparisons);
+    if found.occurrences == 0 && found.windows > 0 {
+        println!("trailing bytes equal: up to {} of 256, first at byte {}", found.closest, found.closest_at);
+    }
     Ok(())
 }
