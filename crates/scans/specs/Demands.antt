@@ -121,6 +121,8 @@ pub record Agreed (x y d : List ℕ) (p q : Answer) (d₁ d₂ : List ℕ) : Typ
   pub same-windows : q .windows ≡ p .windows
   pub same-closest : q .closest ≡ p .closest
   pub same-place : q .«closest_at» ≡ p .«closest_at»
+  pub hit : 1 ≤ q .occurrences → (q .closest ≡ length x) × (q .«closest_at» ≡ firstOf (occurrences x y))
+  pub none : q .occurrences ≡ 0 → q .closest < length x
   pub never-more : q .comparisons ≤ p .comparisons
   pub bound : q .comparisons ≤ 2 * length y - length x + 1
 
@@ -140,14 +142,19 @@ agreed {x} {y} {t} {e} {d} {p} {q} {t₁} {d₁} {t₂} {e₂} {d₂} u v zp zq 
     let P : d₁ ≡ reported (occurrences x y) d = a .places ∙ ap (λ (l : List ℕ). reported l d) (F .plainly) in
     let Q : d₂ ≡ reported (occurrences x y) d = b .places ∙ ap (λ (l : List ℕ). reported l d) (F .remembered) in
     let total : q .occurrences ≡ length (occurrences x y) = ap (λ (r : Answer). r .occurrences) (b .numbers) ∙ ap length (F .remembered) in
+    let R : Reaches x y = reaches x y some in
+    let near : q .closest ≡ closest (plain x y) = ap (λ (r : Answer). r .closest) (b .numbers) ∙ C .same-closest in
+    let place : q .«closest_at» ≡ closestAt (plain x y) = ap (λ (r : Answer). r .«closest_at») (b .numbers) ∙ C .same-place in
     record {
       total = total;
       same-total = ap (λ (r : Answer). r .occurrences) (a .numbers) ∙ ap length (F .plainly) ∙ sym total;
       places = Q;
       same-places = P ∙ sym Q;
       same-windows = ap (λ (r : Answer). r .windows) (b .numbers) ∙ w ∙ sym (ap (λ (r : Answer). r .windows) (a .numbers));
-      same-closest = ap (λ (r : Answer). r .closest) (b .numbers) ∙ C .same-closest ∙ sym (ap (λ (r : Answer). r .closest) (a .numbers));
-      same-place = ap (λ (r : Answer). r .«closest_at») (b .numbers) ∙ C .same-place ∙ sym (ap (λ (r : Answer). r .«closest_at») (a .numbers));
+      same-closest = near ∙ sym (ap (λ (r : Answer). r .closest) (a .numbers));
+      same-place = place ∙ sym (ap (λ (r : Answer). r .«closest_at») (a .numbers));
+      hit = λ h. let g = R .hit (rw total at h) in (near ∙ g .0, place ∙ g .1);
+      none = λ z. rw near (R .none (rw total at z));
       never-more = omega (arith, D .never-more, ap (λ (r : Answer). r .comparisons) (a .numbers), ap (λ (r : Answer). r .comparisons) (b .numbers));
       bound = omega (arith, D .bound, ap (λ (r : Answer). r .comparisons) (b .numbers));
     }
