@@ -21,7 +21,7 @@ use Rattle.scans.specs.Closeness.{endsEqual, trailing, Truly, closest, f
 use Rattle.scans.specs.inside.Closest.{closestOf, closerBy}
 use Rattle.scans.specs.laws.Plain.{plain-step, plain-done}
 use Rattle.scans.specs.laws.Remember.{mem-step, mem-done}
-use Rattle.scans.specs.laws.Run.{run, run-le-right, run-agrees, run-stops}
+use Rattle.scans.specs.laws.Run.{run-le-right, run-agrees, run-stops}
 use Rattle.scans.specs.laws.Ending.{equalAt, plain-all, plain-stops}
 use Rattle.scans.specs.laws.Visits.{fits-case}
 

@@ -5,7 +5,6 @@ use mathlib.Core.Path.{_≡_}
 use native.Mathlib.Omega.{arith}
 use borrow.Author.Needs.{needs}
 use borrow.Author.Tests.{lt-ltb, le-ltb}
-use Rattle.scans.specs.inside.Closest.{closerBy}
 use Rattle.scans.proofs.closeness.after.Statement.{statement}
 use Rattle.scans.proofs.closeness.after.Tie as tie
 

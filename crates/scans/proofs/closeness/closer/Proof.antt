@@ -1,9 +1,6 @@
 -- `scans::closeness::closer` meets its contract: a case for each outcome of its test.
 -- Assumes nothing.
-use mathlib.Core.Path.{_≡_, sym}
-use mathlib.Core.Bool.{cond}
 use borrow.Author.Tests.{lt-ltb, le-ltb}
-use Rattle.scans.specs.inside.Closest.{closerBy}
 use Rattle.scans.proofs.closeness.closer.Statement.{statement}
 use Rattle.scans.proofs.closeness.closer.Tie as tie
 
