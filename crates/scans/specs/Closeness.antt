@@ -3,8 +3,8 @@
 --        j               j+m−1
 --     y  . . . a v v v v v . .       v: the last k bytes of x, and of the window at j;
 --     x  . . . b v v v v v           k is the greatest where a ≠ b, or where there is no b
-use mathlib.Core.Bool.{Bool, cond}
 use mathlib.Core.Path.{_≡_}
+use mathlib.Core.Bool.{Bool, cond}
 use mathlib.Core.List.{List, [], _∷_, map}
 use Prim.Native.Nat.{ℕ, _+_, _-_, max}
 use lib.Dec.{eqb}

@@ -19,8 +19,8 @@ use Rattle.scans.specs.laws.Visits.{Fresh, same-visits, no-more, bounded
 use Rattle.scans.specs.laws.Occurrences.{all-found, same-positions}
 use Rattle.scans.specs.laws.Closeness.{plain-true, same-true, same-closest, plain-reaches}
 
--- DEMAND 3. For 1 ≤ m ≤ n the remembering scan visits the same windows in the same order as the plain one, each with the same end, never makes more
--- comparisons, and at most 2n − m + 1.
+-- DEMAND 3. For 1 ≤ m ≤ n the remembering scan visits the same windows in the same order as the plain one, each with the same end and the same number of equal
+-- bytes, never makes more comparisons, and at most 2n − m + 1.
 pub record Demand3 (x y : List ℕ) : Type 0 where
   pub same-windows : map visit (remembering x y) ≡ map visit (plain x y)
   pub never-more : comparisons (remembering x y) ≤ comparisons (plain x y)

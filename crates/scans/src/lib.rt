@@ -11,7 +11,7 @@
 // 2. `loops` visits window after window, from j = 0 on while one fits.
 // 3. `windows` compares within a window, from the last index downward: all of it in the plain scan, and in the
 //    remembering scan what `memory` does not tell.
-// 4. `moves` moves the window, and `hits` notes where the probe occurs.
+// 4. `moves` moves the window, `hits` notes where the probe occurs, and `closeness` how close the windows came.
 //
 // The remembering scan departs from figure 18 of the source, as document 01 has it:
 // 1. What a window remembers stands at its last position, j + m - 1.
@@ -52,7 +52,8 @@ pub const STREAM_LARGE: u32 = 3;
 
 pub const ROOM_SHORT: u32 = tables::ROOM_SHORT;
 
-// What a search answers. On refusal every other number is 0.
+// What a search answers. The last two say how close it came: the most trailing bytes of the probe that equal the stream in
+// a window visited, and where the first window with so many starts. On refusal every other number is 0.
 pub struct Answer {
     pub refusal: u32,
     pub occurrences: u64,
