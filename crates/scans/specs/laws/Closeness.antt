@@ -12,7 +12,7 @@ use lib.ListN.{length}
 use Rattle.basics.specs.laws.Tests.{bool-case, eqb-case, ltb-case}
 use Rattle.basics.specs.laws.Endings.{longest-is}
 use Rattle.scans.specs.declared.closeness.Closest.{Closest}
-use Rattle.scans.specs.Trace.{End, matched, stopped, Pass, equalBy, Window, positions, Visit, visit}
+use Rattle.scans.specs.Trace.{End, matched, stopped, Pass, equalBy, Window, positions, visit}
 use Rattle.scans.specs.Move.{move}
 use Rattle.scans.specs.Plain.{plainFrom, plainPass, plainScan}
 use Rattle.scans.specs.Remember.{memScan}
@@ -23,7 +23,7 @@ use Rattle.scans.specs.laws.Plain.{plain-step, plain-done}
 use Rattle.scans.specs.laws.Remember.{mem-step, mem-done}
 use Rattle.scans.specs.laws.Run.{run-le-right, run-agrees, run-stops}
 use Rattle.scans.specs.laws.Ending.{equalAt, plain-all, plain-stops}
-use Rattle.scans.specs.laws.Visits.{fits-case}
+use Rattle.scans.specs.laws.Visits.{bare, by-visits, fits-case}
 
 -- THE TRUE NUMBER
 module _ (x y : List ℕ) (j : ℕ) where
@@ -97,39 +97,32 @@ plain-reaches x y some (suc f) j =
     rw (plain-step x y f j l) (reaching-more j (p .comps) (p .end) some (plain-reaches x y some f (j + move x y j (p .end)))))
     (λ l. rw (plain-done x y f j l) (reaching-none some))
 
--- WHAT HANGS ON THE VISITS ALONE
-by-visit : (f : Visit → ℕ) (ws : List Window) → map (λ (w : Window). f (visit w)) ws ≡ map f (map visit ws)
-by-visit f [] = refl
-by-visit f (w ∷ ws) = ap (λ (l : List ℕ). f (visit w) ∷ l) (by-visit f ws)
-
-alike : (f : Visit → ℕ) (vs ws : List Window) → map visit vs ≡ map visit ws → map (λ (w : Window). f (visit w)) vs ≡ map (λ (w : Window). f (visit w)) ws
-alike f vs ws e = by-visit f vs ∙ ap (map f) e ∙ sym (by-visit f ws)
+-- IT HANGS ON THE VISITS ALONE: what the windows tell, the truth at their starts, and the closest
+numbers-bare : (f : ℕ → ℕ → ℕ) (ws : List Window) → map (λ (w : Window). f (w .start) (w .equal)) ws ≡ map (λ (w : Window). f (w .start) (w .equal)) (bare (map visit ws))
+numbers-bare f [] = refl
+numbers-bare f (w ∷ ws) = ap (λ (l : List ℕ). f (w .start) (w .equal) ∷ l) (numbers-bare f ws)
 
 pub same-true : (x y : List ℕ) (vs ws : List Window) → map visit vs ≡ map visit ws → Truly x y ws → Truly x y vs
-same-true x y vs ws e t = alike (λ v. v .equal) vs ws e ∙ t ∙ sym (alike (λ v. trailing x y (v .start)) vs ws e)
+same-true x y vs ws e t =
+    let told = by-visits (map (λ (w : Window). w .equal)) (numbers-bare (λ j k. k)) vs ws e in
+    let truth = by-visits (map (λ (w : Window). trailing x y (w .start))) (numbers-bare (λ j k. trailing x y j)) vs ws e in
+    told ∙ t ∙ sym truth
 
-closestBy : List Visit → ℕ
-closestBy [] = 0
-closestBy (v ∷ vs) = max (v .equal) (closestBy vs)
+closest-bare : (ws : List Window) → closest ws ≡ closest (bare (map visit ws))
+unfolding closest
+closest-bare [] = refl
+closest-bare (w ∷ ws) = ap (max (w .equal)) (closest-bare ws)
 
-firstBy : ℕ → List Visit → ℕ
-firstBy k [] = 0
-firstBy k (v ∷ vs) = cond (eqb (v .equal) k) (v .start) (firstBy k vs)
+first-bare : (k : ℕ) (ws : List Window) → firstTelling k ws ≡ firstTelling k (bare (map visit ws))
+unfolding firstTelling
+first-bare k [] = refl
+first-bare k (w ∷ ws) = ap (cond (eqb (w .equal) k) (w .start)) (first-bare k ws)
 
-closest-by : (ws : List Window) → closest ws ≡ closestBy (map visit ws)
-unfolding closest closestBy
-closest-by [] = refl
-closest-by (w ∷ ws) = ap (max (w .equal)) (closest-by ws)
-
-first-by : (k : ℕ) (ws : List Window) → firstTelling k ws ≡ firstBy k (map visit ws)
-unfolding firstTelling firstBy
-first-by k [] = refl
-first-by k (w ∷ ws) = ap (cond (eqb (w .equal) k) (w .start)) (first-by k ws)
+at-bare : (ws : List Window) → closestAt ws ≡ closestAt (bare (map visit ws))
+at-bare ws = first-bare (closest ws) ws ∙ ap (λ (k : ℕ). firstTelling k (bare (map visit ws))) (closest-bare ws)
 
 pub same-closest : (vs ws : List Window) → map visit vs ≡ map visit ws → (closest vs ≡ closest ws) × (closestAt vs ≡ closestAt ws)
-same-closest vs ws e =
-    let c : closest vs ≡ closest ws = closest-by vs ∙ ap closestBy e ∙ sym (closest-by ws) in
-    (c, first-by (closest vs) vs ∙ (λ k. firstBy (c k) (e k)) ∙ sym (first-by (closest ws) ws))
+same-closest vs ws e = (by-visits closest closest-bare vs ws e, by-visits closestAt at-bare vs ws e)
 
 -- ONE WINDOW MORE
 closest-more : (ws : List Window) (w : Window) → closest (ws ++ (w ∷ [])) ≡ max (closest ws) (w .equal)

@@ -17,13 +17,13 @@ use Rattle.tables.specs.Shift.{shiftAt}
 use Rattle.tables.specs.Occurrence.{occurrenceAt}
 use Rattle.tables.specs.laws.Shift.{Fits, shift-first}
 use Rattle.tables.specs.laws.Occurrence.{occurrence-le, occurrence-first}
-use Rattle.scans.specs.Trace.{End, matched, stopped, Window, found, positions, Visit, visit}
+use Rattle.scans.specs.Trace.{End, matched, stopped, Window, found, positions, visit}
 use Rattle.scans.specs.Move.{move}
 use Rattle.scans.specs.Plain.{plainFrom, plainPass, plainScan, plain}
 use Rattle.scans.specs.Occurrences.{occursAt, occursFrom, occurrences, onStep, multiples, firstOf}
 use Rattle.scans.specs.laws.Plain.{plain-case, plain-step, plain-done}
 use Rattle.scans.specs.laws.Move.{move-pos, move-le}
-use Rattle.scans.specs.laws.Visits.{fits-case}
+use Rattle.scans.specs.laws.Visits.{bare, by-visits, fits-case}
 use Rattle.scans.specs.laws.Hits.{multiples-le}
 
 -- the probe stands at j, byte by byte
@@ -164,17 +164,13 @@ module _ (x y : List ℕ) (pos : 1 ≤ length x) where
   all-found = reports (suc (length y)) (suc (length y)) 0 (omega arith) (omega arith)
 
 -- what a trace reports hangs on its visits alone
-foundBy : List Visit → List ℕ
-foundBy [] = []
-foundBy (v ∷ vs) = found (v .start) (v .end) (foundBy vs)
-
-positions-by : (ws : List Window) → positions ws ≡ foundBy (map visit ws)
-unfolding positions foundBy
-positions-by [] = refl
-positions-by (w ∷ ws) = ap (found (w .start) (w .end)) (positions-by ws)
+positions-bare : (ws : List Window) → positions ws ≡ positions (bare (map visit ws))
+unfolding positions
+positions-bare [] = refl
+positions-bare (w ∷ ws) = ap (found (w .start) (w .end)) (positions-bare ws)
 
 pub same-positions : (vs ws : List Window) → map visit vs ≡ map visit ws → positions vs ≡ positions ws
-same-positions vs ws e = positions-by vs ∙ ap foundBy e ∙ sym (positions-by ws)
+same-positions = by-visits positions positions-bare
 
 -- HOW MANY AND HOW FAR: no more occurrences than places, and none beyond the stream's end
 module _ (x y : List ℕ) (d : ℕ) where

@@ -1,5 +1,5 @@
 -- The whole scan: the same windows, no more comparisons, and what it can still cost. Assumes nothing.
-use mathlib.Core.Path.{_≡_, refl, ap, _∙_}
+use mathlib.Core.Path.{_≡_, refl, sym, ap, _∙_}
 use mathlib.Core.Bool.{true, false}
 use mathlib.Core.List.{List, _∷_, map}
 use Prim.Native.Nat.{ℕ, zero, suc, _+_, _-_, _≤_, _<_, zero-le}
@@ -7,7 +7,7 @@ use native.Mathlib.Omega.{arith}
 use lib.ListN.{length}
 use Rattle.basics.specs.Lists.{at}
 use Rattle.basics.specs.laws.Tests.{eqb-case, leb-case}
-use Rattle.scans.specs.Trace.{equalBy, comparisons, Visit, visit}
+use Rattle.scans.specs.Trace.{equalBy, Window, comparisons, Visit, visit}
 use Rattle.scans.specs.Move.{move}
 use Rattle.scans.specs.Plain.{plainPass, plainScan}
 use Rattle.scans.specs.Remember.{memPass, remember, after, memScan}
@@ -17,6 +17,14 @@ use Rattle.scans.specs.laws.Move.{move-pos}
 use Rattle.scans.specs.laws.Run.{run, run-le-right}
 use Rattle.scans.specs.laws.Ending.{Sound, same-end, fewer, kept-true}
 use Rattle.scans.specs.laws.Free.{free, free-store, free-more, free-floor, pays}
+
+-- WHAT HANGS ON THE VISITS ALONE is the same of the trace without its comparisons
+abbrev pub bare : List Visit → List Window
+bare vs = map (λ (v : Visit). record { start = v .start; end = v .end; comps = 0; equal = v .equal }) vs
+
+pub by-visits : {A : Type 0} (f : List Window → A) → ((ws : List Window) → f ws ≡ f (bare (map visit ws))) → (vs ws : List Window) → map visit vs ≡ map visit ws
+    → f vs ≡ f ws
+by-visits f h vs ws e = h vs ∙ ap (λ (l : List Visit). f (bare l)) e ∙ sym (h ws)
 
 -- nothing is remembered at the window's end or above it
 abbrev pub Fresh : List ℕ → ℕ → (ℕ → ℕ) → Type 0
