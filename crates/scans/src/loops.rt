@@ -114,16 +114,14 @@ fn through(
             let kept = w.kept;
             count = w.count;
             // The next window waits for the move alone, so the move comes before the notes.
-            let d = moves::by(x, y, tables, occ, j, left);
-            let next = memory::on(m, p, d);
+            let next = memory::on(m, p, moves::by(x, y, tables, occ, j, left));
             hits = hits::note(room, hits, step, j, left);
             closest = closeness::after(closest, m, left, j);
             top = memory::keep(mem, m, p, top, kept);
             p = next;
         } else {
             // Most windows stop here, with nothing to note.
-            let d = moves::by(x, y, tables, occ, j, m);
-            p = memory::on(m, p, d);
+            p = memory::on(m, p, moves::by(x, y, tables, occ, j, m));
         }
     }
     Run {
