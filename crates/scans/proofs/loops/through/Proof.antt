@@ -77,7 +77,7 @@ note-requires c κs =
     omega (arith, noted-le (l .inv .noted), l .inv .at .counted, c .before .before .before .before .before .before .before .if1 .taken, c .before .before .before .before .before .before .before .before .before .before .before .before .before .before .before .pre .0)
 
 after-requires : tie.Need-after-requires Inv-loop μ-loop
-after-requires c κs = (c .before .before .before .before .before .before .remembering .ensures .1 .0, c .before .before .before .before .before .before .before .before .before .before .before .before .loop .inv .at .counted .closest)
+after-requires c κs = (omega (arith, c .before .before .before .before .before .before .remembering .ensures .1), c .before .before .before .before .before .before .before .before .before .before .before .before .loop .inv .at .counted .closest)
 
 keep-requires : tie.Need-keep-requires Inv-loop μ-loop
 keep-requires c κs =
