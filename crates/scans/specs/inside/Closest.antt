@@ -11,6 +11,6 @@ use Rattle.scans.specs.Closeness.{closest, closestAt}
 abbrev pub closestOf : List Window → Closest
 closestOf ws = record { equal = closest ws; at = closestAt ws }
 
--- of those that had b, and the window at j with k bytes equal; of two with as many, the earlier
+-- of windows whose closest was b, and then the window at j with k bytes equal; of two with as many, the earlier
 abbrev pub closerBy : Closest → ℕ → ℕ → Closest
 closerBy b k j = cond (ltb (b .equal) k) (record { equal = k; at = j }) b

@@ -67,6 +67,9 @@ equal-left : (m left : ℕ) → m - left ≡ equalBy m (endOf left)
 equal-left m zero = omega arith
 equal-left m (suc i) = omega arith
 
+closer-end : (m left j : ℕ) (e : End) (b : Closest) {b′ : Closest} → endOf left ≡ e → b′ ≡ closerBy b (m - left) j → b′ ≡ closerBy b (equalBy m e) j
+closer-end m left j e b q near = near ∙ ap (λ (k : ℕ). closerBy b k j) (equal-left m left ∙ ap (equalBy m) q)
+
 end-left : (e : End) → endOf (leftOf e) ≡ e
 end-left matched = refl
 end-left (stopped i) = refl
@@ -92,7 +95,7 @@ plain-next {x} {y} {j} {ps} {w} {c} {b} {b′} {r} {s} z g l q v near = rw e (go
     k = ap (λ (r : Seen). r .count) q
 
     n : b′ ≡ closerBy b (equalBy (length x) (p .end)) j
-    n = near ∙ ap (λ (k : ℕ). closerBy b k j) (equal-left (length x) (r .left) ∙ ap (equalBy (length x)) e)
+    n = closer-end (length x) (r .left) j (p .end) b e near
 
     go : (f : ℕ) → length y < f + j → Going (plain x y) (plainScan x y f j) ps w c b → PlainAt x y (j + s) (ps ++ found j (p .end) []) (w + 1) (r .count) b′
     go zero u o = absurd (omega arith)
@@ -176,7 +179,7 @@ mem-next {x} {y} {mem₀} {mem} {mem′} {p} {p′} {top} {top′} {ps} {w} {c} 
     o = place-at on
 
     n : b′ ≡ closerBy b (equalBy (length x) (P .end)) j
-    n = near ∙ ap (λ (k : ℕ). closerBy b k j) (equal-left (length x) (r .left) ∙ ap (equalBy (length x)) e)
+    n = closer-end (length x) (r .left) j (P .end) b e near
 
     go : (f : ℕ) → length y < f + j → Going (remembering x y) (memScan x y (g .R) f j) ps w c b
         → MemAt x y mem₀ mem′ p′ top′ (ps ++ found j (P .end) []) (w + 1) (r .count) b′
