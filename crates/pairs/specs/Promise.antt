@@ -5,15 +5,15 @@ use Prim.Native.Nat.{ℕ, zero, suc}
 use lib.ListN.{length, replicate}
 use Rattle.basics.specs.Rooms.{roomAfter}
 use Rattle.drawlog.specs.declared.Cause.{Cause}
-use Rattle.drawlog.specs.Log.{count}
+use Rattle.drawlog.specs.Log.{drawSize, count}
 use Rattle.drawlog.specs.Promise.{testedOf}
 use Rattle.pairs.specs.declared.Checked.{Checked}
 use Rattle.pairs.specs.Check.{probeSize, Pair, pairs, unprobed, numbers}
 use Rattle.pairs.specs.Refusal.{tableSize, causeOf}
 
--- offsets are counted in bytes: every one is a multiple of the step
+-- an offset counts where a draw begins
 abbrev pub step : ℕ
-step = 1
+step = drawSize
 
 -- the answer beside this refusal (0: none) and its entry number: the number of pairs and of unprobed owners
 unfoldable pub checkedOf : ℕ → ℕ → List Pair → ℕ → Checked

@@ -5,7 +5,8 @@
 // owners    one owner after another
 // owner     one owner: unprobed, or its probe searched for
 // others    one block after another, for one probe
-// pair      one search: a stretch of the log is handed to the scan, uncopied
+// pair      one block: it is searched, and makes a pair or none
+// search    one search: a stretch of the log is handed to the scan, uncopied
 // put       the four numbers of a pair
 //
 // Work rooms hold anything between two searches; what lies in them beyond what a search of such a probe takes is never
@@ -21,19 +22,20 @@ ghost use Rattle.pairs.specs.Check.{probeSize, probed, pairWith, pairsWi
 ghost use Rattle.pairs.specs.Refusal.{longest, needed, tooShort, ownCause, causeOf};
 ghost use Rattle.pairs.specs.Promise.{step, Checking};
 ghost use Rattle.basics.specs.laws.Inlaid.{Inlaid};
-ghost use Rattle.pairs.specs.Inside.{Worked, Ready, Found};
+ghost use Rattle.pairs.specs.Inside.{Worked, Ready, Sought, Found};
 use basics::wide;
 use drawlog::Cause;
 use drawlog::Log;
 use drawlog::Tested;
+use scans::Tally;
 
 // The fewest and the most draws of a probe.
 pub const SHORTEST: u32 = 1;
 
 pub const LONGEST: u32 = 512;
 
-// Offsets are told in bytes, and each counts.
-pub const STEP: usize = 1;
+// The bytes from one offset that counts to the next: a draw begins there.
+pub const STEP: usize = Log::DRAW as usize;
 
 // The numbers that a pair takes in the result room: owner, searched, first offset, occurrences.
 pub const PAIR: usize = 4;
@@ -248,7 +250,7 @@ fn others(
     found
 }
 
-// Searches for owner a's probe in block b, a stretch of the log. No owner is paired with itself.
+// Puts the pair of owner a and block b, if they overlap. No owner is paired with itself.
 fn pair(
     log: &[u8],
     a: u32,
@@ -268,8 +270,7 @@ fn pair(
     if a == b {
         return pairs;
     }
-    let stream = drawlog::block_at(log, b);
-    let hits = scans::aligned(probe, stream, tables, memory, STEP);
+    let hits = search(log, b, probe, tables, memory);
     if hits.number == 0 {
         return pairs;
     }
@@ -284,6 +285,17 @@ fn pair(
         hits.number as u32,
     );
     pairs + 1
+}
+
+// Searches block b, a stretch of the log, for the probe: how many occurrences begin with a draw, and the first of them.
+fn search(log: &[u8], b: u32, probe: &[u8], tables: &mut [u16], memory: &mut [u32]) -> Tally
+    requires { ⌜ b < testedOf (now log) .count ⌝ }
+    requires { ⌜ Ready (length (now probe)) (now tables) (now memory) ⌝ }
+    ensures { λ r. ⌜ Sought step (now (probe .entry)) (now (log .entry)) b (now (tables .entry)) (now (memory .entry)) r
+        (now (tables .exit)) (now (memory .exit)) ⌝ }
+{
+    let stream = drawlog::block_at(log, b);
+    scans::aligned(probe, stream, tables, memory, STEP)
 }
 
 // Puts the numbers of a pair behind those of `pairs` others.

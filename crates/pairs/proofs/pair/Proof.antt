@@ -5,7 +5,7 @@ use borrow.Author.Needs.{needs}
 use native.Mathlib.Omega.{arith}
 use Rattle.pairs.specs.Promise.{step}
 use Rattle.pairs.specs.laws.Check.{with-self, with-none, with-some, id-is}
-use Rattle.pairs.specs.laws.Inside.{worked-none, found-none, found-one, sought}
+use Rattle.pairs.specs.laws.Inside.{worked-none, found-none, found-one}
 use Rattle.pairs.proofs.pair.Statement.{statement}
 use Rattle.pairs.proofs.pair.Tie as tie
 
@@ -15,11 +15,8 @@ returns c =
     let a = s .args in
     (found-none (with-self step (a .probe .now) (a .log .now) (a .a) (a .b) (c .if1 .taken)) (s .pre .0 .3), worked-none)
 
-block-at-requires : tie.Need-block-at-requires
-block-at-requires c κs = search needs
-
-aligned-requires : tie.Need-aligned-requires
-aligned-requires c κs = search needs
+search-requires : tie.Need-search-requires
+search-requires c κs = let s = c .before .before .before .before .before .before .before .before in (s .pre .0 .1, s .pre .1 .1)
 
 same-length : tie.Need-same-length
 same-length c = search needs
@@ -30,11 +27,11 @@ same-length-2 c = search needs
 returns-2 : tie.Need-returns-2
 returns-2 c =
     let call = c .before .before .before .before .before .before in
-    let block = call .before .before .before in
-    let s = block .before .before .before .before .before .before .before in
+    let other = call .before .before .before in
+    let s = other .before .before .before .before .before .before in
     let a = s .args in
-    let g = sought (a .log .now) (a .b) (s .pre .0 .1) (block .block-at .ensures .bytes) (call .aligned .ensures) (s .pre .1 .1) in
-    (found-none (with-none step (a .probe .now) (a .log .now) (a .a) (a .b) (block .before .if1 .left) (sym (g .number) ∙ c .if2 .taken)) (s .pre .0 .3), g .worked)
+    let g = call .search .ensures in
+    (found-none (with-none step (a .probe .now) (a .log .now) (a .a) (a .b) (other .if1 .left) (sym (g .number) ∙ c .if2 .taken)) (s .pre .0 .3), g .worked)
 
 entry-requires : tie.Need-entry-requires
 entry-requires c κs = search needs
@@ -43,28 +40,20 @@ entry-requires-2 : tie.Need-entry-requires-2
 entry-requires-2 c κs = search needs
 
 cast-put : tie.Need-cast-put
-cast-put c =
-    let call = c .before .before .before .before .before .before .before .before .before .before in
-    let block = call .before .before .before in
-    let s = block .before .before .before .before .before .before .before in
-    omega (arith, sought (s .args .log .now) (s .args .b) (s .pre .0 .1) (block .block-at .ensures .bytes) (call .aligned .ensures) (s .pre .1 .1) .near)
+cast-put c = let call = c .before .before .before .before .before .before .before .before .before .before in omega (arith, call .search .ensures .near)
 
 cast-put-2 : tie.Need-cast-put-2
-cast-put-2 c =
-    let call = c .before .before .before .before .before .before .before .before .before .before .before in
-    let block = call .before .before .before in
-    let s = block .before .before .before .before .before .before .before in
-    omega (arith, sought (s .args .log .now) (s .args .b) (s .pre .0 .1) (block .block-at .ensures .bytes) (call .aligned .ensures) (s .pre .1 .1) .few)
+cast-put-2 c = let call = c .before .before .before .before .before .before .before .before .before .before .before in omega (arith, call .search .ensures .few)
 
 put-requires : tie.Need-put-requires
 put-requires c κs =
-    let s = c .before .before .before .before .before .before .before .before .before .before .before .before .before .before .before .before .before .before .before .before .before in
-    let if1 = c .before .before .before .before .before .before .before .before .before .before .before .before .before .before .before in
-    s .pre .1 .0 (if1 .if1 .left)
+    let other = c .before .before .before .before .before .before .before .before .before .before .before .before .before .before in
+    let s = other .before .before .before .before .before .before in
+    s .pre .1 .0 (other .if1 .left)
 
 add-result : tie.Need-add-result
 add-result c =
-    let s = c .before .before .before .before .before .before .before .before .before .before .before .before .before .before .before .before .before .before .before .before .before .before .before .before in
+    let s = c .before .before .before .before .before .before .before .before .before .before .before .before .before .before .before .before .before .before .before .before .before .before .before in
     omega (arith, s .pre .0)
 
 same-length-3 : tie.Need-same-length-3
@@ -79,17 +68,18 @@ same-length-5 c = search needs
 returns-3 : tie.Need-returns-3
 returns-3 c =
     let put = c .before .before in
-    let other = put .before .before .before .before in
-    let call = other .before .before .before .before .before .before .before .before in
-    let block = call .before .before .before in
-    let s = block .before .before .before .before .before .before .before in
+    let entries = put .before .before .before .before in
+    let some = entries .before .before in
+    let call = some .before .before .before .before .before .before in
+    let other = call .before .before .before in
+    let s = other .before .before .before .before .before .before in
     let a = s .args in
-    let g = sought (a .log .now) (a .b) (s .pre .0 .1) (block .block-at .ensures .bytes) (call .aligned .ensures) (s .pre .1 .1) in (
+    let g = call .search .ensures in (
       found-one
-          (with-some step (a .probe .now) (a .log .now) (a .a) (a .b) (block .before .if1 .left) (λ z. other .before .before .if2 .left (g .number ∙ z)))
+          (with-some step (a .probe .now) (a .log .now) (a .a) (a .b) (other .if1 .left) (λ z. some .if2 .left (g .number ∙ z)))
           (put .put .ensures)
-          (id-is (a .log .now) (a .a) (s .pre .0 .0) (other .before .entry .ensures))
-          (id-is (a .log .now) (a .b) (s .pre .0 .1) (other .entry2 .ensures))
+          (id-is (a .log .now) (a .a) (s .pre .0 .0) (entries .before .entry .ensures))
+          (id-is (a .log .now) (a .b) (s .pre .0 .1) (entries .entry2 .ensures))
           (g .first)
           (g .number),
       g .worked,
@@ -100,8 +90,7 @@ pair-spec =
     tie.close
     (tie.spec
     returns
-    block-at-requires
-    aligned-requires
+    search-requires
     same-length
     same-length-2
     returns-2

@@ -8,13 +8,12 @@ use lib.ListN.{length, take, drop, length-append}
 use Rattle.basics.specs.laws.Rooms.{beyond-none, beyond-then}
 use Rattle.basics.specs.laws.Inlaid.{Inlaid, inlaid-length, inlaid-none, inlaid-then}
 use Rattle.scans.specs.declared.Tally.{Tally}
-use Rattle.scans.specs.Occurrences.{occurrences, multiples, firstOf}
 use Rattle.scans.specs.Promise.{Aligning}
 use Rattle.scans.specs.laws.Refusal.{Accepted}
 use Rattle.scans.specs.laws.Search.{counted}
 use Rattle.drawlog.specs.Promise.{testedOf, listedOf}
 use Rattle.pairs.specs.Check.{block, Pair, numbers}
-use Rattle.pairs.specs.Inside.{Worked, Ready, Found}
+use Rattle.pairs.specs.Inside.{Worked, Ready, Sought, Found}
 use Rattle.pairs.specs.laws.Check.{numbers-append, length-numbers, block-is, block-short}
 
 -- WORK ROOMS
@@ -64,14 +63,7 @@ found-then {qs} {rs} {ts} {k} {k₁} {k₂} {d} {d₁} {d₂} e u v =
 pub found-within : {qs : List Pair} {k k′ : ℕ} {d d′ : List ℕ} → Found qs k d k′ d′ → 4 * k′ ≤ length d
 found-within {qs} g = omega (arith, g .number, g .laid .room, length-numbers qs)
 
--- ONE SEARCH in block b: what it tells of the pair, and of the work rooms
-pub record Sought (d : ℕ) (x s : List ℕ) (b : ℕ) (t e : List ℕ) (r : Tally) (t′ e′ : List ℕ) : Type 0 where
-  pub number : r .number ≡ length (multiples d (occurrences x (block s b)))
-  pub first : r .first ≡ firstOf (multiples d (occurrences x (block s b)))
-  pub few : r .number ≤ 65537
-  pub near : r .first ≤ 65536
-  pub worked : Worked (length x) t e t′ e′
-
+-- ONE SEARCH, of the stretch y that the log hands out for block b
 pub sought : {d : ℕ} {x y t e : List ℕ} {r : Tally} {t′ e′ : List ℕ} (s : List ℕ) (b : ℕ) → b < testedOf s .count
     → y ≡ take (listedOf s b .length) (drop (listedOf s b .start) s) → Aligning x y t e d r t′ e′ → Ready (length x) t e → Sought d x s b t e r t′ e′
 sought {d} {x} {y} s b there q g ready =
