@@ -5,6 +5,8 @@ pub mod Check
 pub mod Refusal
 -- what the check promises, and that it determines the outcome
 pub mod Promise
+-- request Two: a hit inside a draw is no overlap
+pub mod Overlap
 -- what the private functions promise each other: no part of a public promise
 pub mod Inside
 -- the laws about them

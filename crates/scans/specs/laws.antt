@@ -10,6 +10,8 @@ pub mod Free
 pub mod Visits
 -- every occurrence is reported, and nothing else
 pub mod Occurrences
+-- those at multiples of a step: how many, and the first
+pub mod Steps
 -- each window tells the true number of equal bytes; the closest window
 pub mod Closeness
 -- THE CODE'S LOOPS: what they keep while they run.

@@ -1,12 +1,12 @@
--- Laws of `least` and `greatest`: what each finds passes, and nothing before it does. Assumes nothing.
+-- Laws of `least` and `greatest`: what each finds passes, and nothing before it does; and of `howMany`. Assumes nothing.
 use mathlib.Core.Path.{_≡_, refl, sym, ap, _∙_}
 use mathlib.Core.Logic.{_⊎_, inl, inr, ⊎-elim}
 use mathlib.Core.Bool.{Bool, true, false, cond, true≢false}
 use Prim.Native.Nat.{ℕ, zero, suc, _+_, _≤_, _<_}
-use native.Mathlib.Nat.{eq-or-lt-of-le}
+use native.Mathlib.Nat.{eq-or-lt-of-le, le-of-suc-le-suc}
 use native.Mathlib.Omega.{arith}
-use Rattle.basics.specs.Search.{least, greatest}
-use Rattle.basics.specs.laws.Tests.{le-or-lt}
+use Rattle.basics.specs.Search.{least, greatest, howMany}
+use Rattle.basics.specs.laws.Tests.{bool-case, le-or-lt}
 
 -- THE LEAST: k is it, where it is among those tried or just past them, passes or is past them, and none before it passes
 pub least-is : (p : ℕ → Bool) (n s k : ℕ) → s ≤ k → k ≤ s + n → ((j : ℕ) → s ≤ j → j < k → p j ≡ false) → (k ≡ s + n) ⊎ (p k ≡ true) → least p n s ≡ k
@@ -68,6 +68,15 @@ unfolding least
 least-ext p q zero s h = refl
 least-ext p q (suc n) s h = λ k. cond (h s (omega arith) k) s (least-ext p q n (suc s) (λ j l. h j (omega arith)) k)
 
+-- one number after another
+pub least-here : (p : ℕ → Bool) (n s : ℕ) → p s ≡ true → least p (suc n) s ≡ s
+unfolding least
+least-here p n s e = rw e
+
+pub least-later : (p : ℕ → Bool) (n s : ℕ) → p s ≡ false → least p (suc n) s ≡ least p n (suc s)
+unfolding least
+least-later p n s e = rw e
+
 -- THE GREATEST, one number after another
 pub greatest-none : (p : ℕ → Bool) → greatest p 0 ≡ 0
 unfolding greatest
@@ -117,3 +126,32 @@ greatest-above p (suc n) j l h = go (p (suc n)) refl l (λ u v. greatest-above p
     go : (b : Bool) → p (suc n) ≡ b → cond b (suc n) (greatest p n) < j → (greatest p n < j → j ≤ n → p j ≡ false) → p j ≡ false
     go true e l′ lower = absurd (omega arith)
     go false e l′ lower = ⊎-elim (λ (q : j ≡ suc n). ap p q ∙ e) (λ (q : j < suc n). lower l′ (omega arith)) (eq-or-lt-of-le h)
+
+-- HOW MANY, one number after another
+module _ (p : ℕ → Bool) where
+  pub many-first : howMany p 0 ≡ 0
+  unfolding howMany
+  many-first = refl
+
+  pub many-next : (n : ℕ) → howMany p (suc n) ≡ howMany p n + cond (p n) 1 0
+  unfolding howMany
+  many-next n = refl
+
+  pub many-le : (n : ℕ) → howMany p n ≤ n
+  unfolding howMany
+  many-le zero = omega arith
+  many-le (suc n) = bool-case (p n) (λ t. howMany p n + cond t 1 0 ≤ suc n) (λ e. omega (arith, many-le n)) (λ e. omega (arith, many-le n))
+
+  pub many-none : (n : ℕ) → ((j : ℕ) → j < n → p j ≡ false) → howMany p n ≡ 0
+  unfolding howMany
+  many-none zero h = refl
+  many-none (suc n) h = rw (h n (omega arith)) (omega (arith, many-none n (λ j l. h j (omega arith))))
+
+  pub many-some : (n j : ℕ) → j < n → p j ≡ true → 1 ≤ howMany p n
+  unfolding howMany
+  many-some zero j l e = absurd (omega arith)
+  many-some (suc n) j l e =
+      ⊎-elim
+      (λ (q : j ≡ n). rw (ap p (sym q) ∙ e) (omega arith))
+      (λ (q : j < n). omega (arith, many-some n j q e))
+      (eq-or-lt-of-le (le-of-suc-le-suc l))

@@ -6,7 +6,7 @@ use lib.Dec.{eqb}
 use lib.ListN.{length}
 use Rattle.basics.specs.laws.Lists.{Bytes}
 use Rattle.scans.specs.Occurrences.{occurrences, multiples, firstOf}
-use Rattle.scans.specs.laws.Occurrences.{multiples-few, multiples-near}
+use Rattle.scans.specs.laws.Steps.{multiples-few, multiples-near}
 use Rattle.drawlog.specs.Log.{count, idAt}
 use Rattle.drawlog.specs.Promise.{testedOf}
 use Rattle.drawlog.specs.laws.Log.{id-below}

@@ -20,11 +20,10 @@ use Rattle.tables.specs.laws.Occurrence.{occurrence-le, occurrence-first}
 use Rattle.scans.specs.Trace.{End, matched, stopped, Window, found, positions, visit}
 use Rattle.scans.specs.Move.{move}
 use Rattle.scans.specs.Plain.{plainFrom, plainPass, plainScan, plain}
-use Rattle.scans.specs.Occurrences.{occursAt, occursFrom, occurrences, onStep, multiples, firstOf}
+use Rattle.scans.specs.Occurrences.{occursAt, occursFrom, occurrences}
 use Rattle.scans.specs.laws.Plain.{plain-case, plain-step, plain-done}
 use Rattle.scans.specs.laws.Move.{move-pos, move-le}
 use Rattle.scans.specs.laws.Visits.{bare, by-visits, fits-case}
-use Rattle.scans.specs.laws.Hits.{multiples-le}
 
 -- the probe stands at j, byte by byte
 abbrev pub Standing : List ℕ → List ℕ → ℕ → Type 0
@@ -171,31 +170,3 @@ positions-bare (w ∷ ws) = ap (found (w .start) (w .end)) (positions-bare ws)
 
 pub same-positions : (vs ws : List Window) → map visit vs ≡ map visit ws → positions vs ≡ positions ws
 same-positions = by-visits positions positions-bare
-
--- HOW MANY AND HOW FAR: no more occurrences than places, and none beyond the stream's end
-module _ (x y : List ℕ) (d : ℕ) where
-  few : (c j : ℕ) → length (occursFrom x y c j) ≤ c
-  unfolding occursFrom
-  few zero j = zero-le
-  few (suc c) j =
-      bool-case (occursAt x y j) (λ t. length {A = ℕ} (elim t [ true ↦ j ∷ occursFrom x y c (suc j) | false ↦ occursFrom x y c (suc j) ]) ≤ suc c)
-      (λ e. omega (arith, few c (suc j)))
-      (λ e. omega (arith, few c (suc j)))
-
-  pub multiples-few : length (multiples d (occurrences x y)) ≤ suc (length y)
-  unfolding occurrences
-  multiples-few = omega (arith, multiples-le d (occursFrom x y (suc (length y)) 0), few (suc (length y)) 0)
-
-  near : (c j : ℕ) → firstOf (multiples d (occursFrom x y c j)) ≤ length y
-  unfolding occursFrom multiples
-  near zero j = zero-le
-  near (suc c) j =
-      bool-case (occursAt x y j) (λ t. firstOf (multiples d (elim t [ true ↦ j ∷ occursFrom x y c (suc j) | false ↦ occursFrom x y c (suc j) ])) ≤ length y)
-      (λ e. bool-case (onStep d j) (λ t. firstOf (elim t [ true ↦ j ∷ multiples d (occursFrom x y c (suc j)) | false ↦ multiples d (occursFrom x y c (suc j)) ]) ≤ length y)
-      (λ q. omega (arith, occurs-told x y j e .0))
-      (λ q. near c (suc j)))
-      (λ e. near c (suc j))
-
-  pub multiples-near : firstOf (multiples d (occurrences x y)) ≤ length y
-  unfolding occurrences
-  multiples-near = near (suc (length y)) 0

@@ -29,7 +29,7 @@ use Rattle.scans.specs.Demands.{demand2}
 use Rattle.scans.specs.inside.Search.{Searching, Preparing}
 use Rattle.scans.specs.laws.Hits.{multiples-one, reported-first}
 use Rattle.scans.specs.laws.Refusal.{Accepted, accepted, accepts}
-use Rattle.scans.specs.laws.Occurrences.{multiples-few, multiples-near}
+use Rattle.scans.specs.laws.Steps.{multiples-few, multiples-near}
 
 -- WHAT A SEARCH GIVES, by its refusal
 -- a refusal, and a run without one
