@@ -37,14 +37,27 @@ pub(crate) fn verdict(out: &mut [u8], at: usize, refusal: u32) -> usize {
     labelled(out, at, b"refused ", wide(refusal))
 }
 
+// Puts the probe and the stream.
+pub(crate) fn names(out: &mut [u8], at: usize, probe: &[u8], stream: &[u8]) -> usize {
+    let at = lines::word(out, at, probe);
+    let at = lines::word(out, at, b" in ");
+    let at = lines::word(out, at, stream);
+    lines::word(out, at, b": ")
+}
+
 // Puts the answer of a search, with the positions that it wrote.
 pub(crate) fn found(out: &mut [u8], at: usize, positions: &[u32], a: Answer) -> usize {
     if a.refusal != 0 {
         return verdict(out, at, a.refusal);
     }
-    let at = lines::word(out, at, b"positions");
-    let at = listed(out, at, positions, a.written);
+    let at = places(out, at, positions, a);
     work(out, at, a)
+}
+
+// Puts the positions that a search wrote.
+pub(crate) fn places(out: &mut [u8], at: usize, positions: &[u32], a: Answer) -> usize {
+    let at = lines::word(out, at, b"positions");
+    listed(out, at, positions, a.written)
 }
 
 // Puts the answer of a search that was lent no room for positions.
@@ -64,10 +77,10 @@ fn work(out: &mut [u8], at: usize, a: Answer) -> usize {
     labelled(out, at, b" at ", a.closest_at)
 }
 
-// Puts n positions, or says that there are none.
-fn listed(out: &mut [u8], at: usize, positions: &[u32], n: u64) -> usize {
+// Puts the first n numbers of a room, or says that there are none.
+pub(crate) fn listed(out: &mut [u8], at: usize, room: &[u32], n: u64) -> usize {
     if n == 0 {
         return lines::word(out, at, b" none");
     }
-    numbers(out, at, positions, n)
+    numbers(out, at, room, n)
 }

@@ -1,9 +1,18 @@
-// Document 01's log: replicate 3 has draws 0 to 31; 7 has 100 to 107, then 0 to 31; 9 has five draws of 0.
+// Draw logs, each put from the front of the room on. Answered is how many bytes it has.
 
-// The bytes of the log: 32, 40 and 5 draws, three entries of the directory, and the trailer.
+// The bytes of document 01's log: 32, 40 and 5 draws, three entries of the directory, and the trailer.
 pub(crate) const SIZE: usize = 664;
 
-// Puts the log from the front of the room on, and answers how many bytes it has.
+// Puts a log of two replicates, 1 and 2, with these blocks.
+pub(crate) fn two(log: &mut [u8], first: &[u8], second: &[u8]) -> usize {
+    let start = lines::word(log, 0, first);
+    let end = lines::word(log, start, second);
+    let at = entry(log, end, 1, 0, start);
+    let at = entry(log, at, 2, start, second.len());
+    trailer(log, at, end, 2)
+}
+
+// Puts document 01's log: replicate 3 has draws 0 to 31; 7 has 100 to 107, then 0 to 31; 9 has five draws of 0.
 pub(crate) fn put(log: &mut [u8]) -> usize {
     let at = blocks(log, 0);
     let at = directory(log, at);
@@ -38,22 +47,22 @@ fn draws(log: &mut [u8], at: usize, first: u8, end: u8) -> usize {
 }
 
 // Puts an entry of the directory.
-fn entry(log: &mut [u8], at: usize, id: u16, start: u16, length: u16) -> usize {
+fn entry(log: &mut [u8], at: usize, id: usize, start: usize, length: usize) -> usize {
     let at = number(log, at, id);
     let at = number(log, at, start);
     number(log, at, length)
 }
 
 // Puts the trailer, which points back to the directory.
-fn trailer(log: &mut [u8], at: usize, start: u16, count: u16) -> usize {
+fn trailer(log: &mut [u8], at: usize, start: usize, count: usize) -> usize {
     let at = number(log, at, start);
     let at = number(log, at, count);
     lines::word(log, at, b"DRAW")
 }
 
-// Puts a number in 4 bytes, low byte first; those of this log are below 2^16.
-fn number(log: &mut [u8], at: usize, n: u16) -> usize {
+// Puts a number in 4 bytes, low byte first; those of these logs are below 2^16.
+fn number(log: &mut [u8], at: usize, n: usize) -> usize {
     let at = lines::byte(log, at, (n % 256) as u8);
-    let at = lines::byte(log, at, (n / 256) as u8);
+    let at = lines::byte(log, at, (n / 256 % 256) as u8);
     lines::word(log, at, &[0u8; 2])
 }

@@ -2,6 +2,7 @@
 use crate::pieces::counted;
 use crate::pieces::found;
 use crate::pieces::labelled;
+use crate::pieces::names;
 
 // The most bytes of a probe, and the most positions, in the rows that list positions; and what both tables take.
 const MOST: usize = 16;
@@ -66,14 +67,6 @@ fn further(out: &mut [u8], at: usize, probe: &[u8], stream: &[u8]) -> usize {
     let at = lines::word(out, at, b"remembering ");
     let at = remember(out, at, probe, stream);
     lines::byte(out, at, b'\n')
-}
-
-// Puts the probe and the stream.
-fn names(out: &mut [u8], at: usize, probe: &[u8], stream: &[u8]) -> usize {
-    let at = lines::word(out, at, probe);
-    let at = lines::word(out, at, b" in ");
-    let at = lines::word(out, at, stream);
-    lines::word(out, at, b": ")
 }
 
 // Puts what the plain scan answers.

@@ -29,7 +29,15 @@ module _ (s : List ℕ) (a : Accepted s) where
   pub whole-draws : (k : ℕ) → k < count s → lengthAt s k % drawSize ≡ 0
   whole-draws k h = a .each k h .whole
 
-  -- and ends before the directory
+  -- so a draw begins at the same places, counted from a block's start or from the log's
+  starts-whole : (k : ℕ) → k < count s → startAt s k % drawSize ≡ 0
+  starts-whole zero h = rw first-block
+  starts-whole (suc k) h = omega (arith, next-block k h, starts-whole k (omega arith), whole-draws k (omega arith))
+
+  pub draws-begin : (k j : ℕ) → k < count s → (startAt s k + j) % drawSize ≡ j % drawSize
+  draws-begin k j h = omega (arith, starts-whole k h)
+
+  -- each ends before the directory
   ends-up : (n k : ℕ) → k + suc n ≤ count s → startAt s k + lengthAt s k ≤ due s (k + suc n)
   ends-up zero k h = let e : k + 1 ≡ suc k = omega arith in rw (e, due-next s k) (omega arith)
   ends-up (suc n) k h =
