@@ -196,14 +196,15 @@ nahui_written nahui_log_write(const uint8_t *blocks, size_t blocks_len,
 
 /*
  * The overlap check. The probe of owner a is the first p draws (8p bytes) of its block, p from 1 to 512; an
- * owner with a shorter block is unprobed. Every other block b is searched for it, at every byte offset.
- * The refusal is 0, 10 to 17, 20, 4 or 5.
+ * owner with a shorter block is unprobed. Every other block b is searched for it. The pair overlaps where the
+ * probe occurs at an offset from the start of b's block that is a multiple of 8, where a draw begins: an
+ * occurrence inside a draw, which a search reports, is no overlap. The refusal is 0, 10 to 17, 20, 4 or 5.
  *
  *   tables   work room of at least 16p numbers, the first 16p of which end at 0
  *   memory   work room of at least 8p entries, the first 8p of which end at 0
  *   result   at least 4 * c * (c - 1) numbers for c replicates; takes four numbers for each overlapping pair,
- *            owners ascending, then b ascending: id of a, id of b, first offset from the start of b's block,
- *            number of occurrences; the rest stays as it was
+ *            owners ascending, then b ascending: id of a, id of b, the first such offset, in bytes, and how many
+ *            such offsets there are; the rest stays as it was
  *
  * The work rooms are asked for, and end so, whether or not any owner is probed.
  */

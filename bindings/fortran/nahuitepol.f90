@@ -258,10 +258,10 @@ contains
         lengths, size(lengths, kind=c_size_t), out, size(out, kind=c_size_t))
   end function nahui_log_write
 
-  !> Searches every block of the log for the first p draws (8p bytes) of every other one. The tables room needs
-  !> 16p numbers, the memory room 8p; the result room needs 4 c (c - 1) numbers for c replicates and takes four
-  !> for each overlapping pair: owner, searched id, first offset, occurrences. The refusal is 0, 10 to 17, 20, 4
-  !> or 5.
+  !> Searches every block of the log for the first p draws (8p bytes) of every other one. What occurs inside a
+  !> draw, at an offset that is no multiple of 8, does not count. The tables room needs 16p numbers, the memory
+  !> room 8p; the result room needs 4 c (c - 1) numbers for c replicates and takes four for each overlapping
+  !> pair: owner, searched id, first offset in bytes, occurrences. The refusal is 0, 10 to 17, 20, 4 or 5.
   function nahui_check(log, p, tables, memory, result_room) result(answer)
     integer(c_int8_t), intent(in), contiguous :: log(:)
     integer(c_int32_t), intent(in) :: p

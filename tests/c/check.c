@@ -27,6 +27,27 @@ static void check_of_the_document_log(void)
     EXPECT(holds_just(result, 24, pair, 4));
 }
 
+/* Replicate 1 has the draw abcdefgh; 2 has it from its byte 3 on, and in the longer log as its third draw too. */
+static void hits_inside_a_draw(void)
+{
+    static const char blocks[] = "abcdefgh012abcdefgh34567abcdefgh";
+    const uint32_t ids[] = {1, 2}, found[] = {3, 16}, pair[] = {1, 2, 16, 1};
+    for (uint32_t k = 0; k < 2; k++) {
+        const uint32_t lengths[] = {8, 16 + 8 * k};
+        size_t size = 8 + lengths[1], log_size = size + 36;
+        const uint8_t *blocks_lent = bytes(blocks, size);
+        uint8_t *log = byte_room(log_size);
+        EXPECT(nahui_log_write(blocks_lent, size, ids, 2, lengths, 2, log, log_size).refusal == 0);
+        uint16_t *tables = tables_room(16);
+        uint32_t *memory = room(8), *result = room(8), *positions = room(2);
+        EXPECT(answers(nahui_check(log, log_size, 1, tables, 16, memory, 8, result, 8), k, 0));
+        EXPECT(holds_just(result, 8, pair, 4 * k));
+        EXPECT(nahui_plain(blocks_lent, 8, blocks_lent + 8, lengths[1], tables, 16, positions, 2).refusal == 0);
+        EXPECT(holds_just(positions, 2, found, 1 + k));
+        give_arrays_back();
+    }
+}
+
 static void one_replicate(void)
 {
     const uint8_t least_log[24] = {5, 0, 0, 0, 0, 0, 0, 0, 0, 0, 0, 0, 0, 0, 0, 0, 1, 0, 0, 0, 'D', 'R', 'A', 'W'};
@@ -86,6 +107,7 @@ static void every_p(void)
 int main(void)
 {
     run("check of document 01's log", check_of_the_document_log);
+    run("a hit inside a draw is no overlap", hits_inside_a_draw);
     run("one replicate needs no result room", one_replicate);
     run("refusals come in the order log, 20, 4, 5", refusals_in_their_order);
     run("a refused log carries its entry", a_refused_log);

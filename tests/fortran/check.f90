@@ -10,6 +10,7 @@ program check
   integer(c_int32_t) :: memory(259), found(24)
   integer(c_int8_t) :: log(664)
   type(nahui_checked) :: answer
+  type(nahui_written) :: written
 
   log = document_log()
 
@@ -30,6 +31,20 @@ program check
   call expect(answer%refusal == 0 .and. answer%pairs == 1, 'one pair')
   call expect(all(tables(:512) == 0) .and. all(memory(:256) == 0), 'work rooms end at 0')
   call expect(all(tables(513:) == untouched_entry) .and. all(memory(257:) == untouched), 'nothing else is touched')
+
+  ! Replicate 1 has the draw abcdefgh; 2 has it from its byte 3 on, and in the longer log as its third draw too.
+  call begin('a hit inside a draw is no overlap')
+  call fresh_rooms()
+  written = nahui_log_write(bytes('abcdefgh012abcdefgh34567'), [1, 2], [8, 16], log(:60))
+  answer = nahui_check(log(:60), 1_c_int32_t, tables, memory, found)
+  call expect(written%refusal == 0 .and. answer%refusal == 0 .and. answer%pairs == 0, 'no pair')
+  call expect(all(found == untouched), 'nothing in the result room')
+  written = nahui_log_write(bytes('abcdefgh012abcdefgh34567abcdefgh'), [1, 2], [8, 24], log(:68))
+  answer = nahui_check(log(:68), 1_c_int32_t, tables, memory, found)
+  call expect(written%refusal == 0 .and. answer%refusal == 0 .and. answer%pairs == 1, 'one pair')
+  call expect(all(found(:4) == [1, 2, 16, 1]), '1 2 16 1')
+  call expect(all(found(5:) == untouched), 'nothing else in the result room')
+  log = document_log()
 
   call begin('refusals of the check')
   call fresh_rooms()

@@ -317,16 +317,21 @@ pub fn log_write(blocks: &[u8], ids: &[u32], lengths: &[u32], out: &mut [u8]) ->
     }
 }
 
-/// Searches every block of the log for the first p draws (8p bytes) of every other one. The refusal is 0,
-/// 10 to 17, 20, 4 or 5.
+/// Searches every block of the log for the first p draws (8p bytes) of every other one. What occurs inside a
+/// draw, at an offset that is no multiple of 8, does not count. The refusal is 0, 10 to 17, 20, 4 or 5.
 ///
 /// The tables room needs 16p numbers, the memory room 8p; these end at 0. The result room needs 4·c·(c − 1)
 /// numbers for c replicates and takes four for each overlapping pair: owner, searched id, first offset in the
-/// searched block, occurrences.
+/// searched block in bytes, occurrences.
 ///
 /// ```
-/// let answer = nahuitepol::check(b"no log", 32, &mut [0; 512], &mut [0; 256], &mut []);
-/// assert_eq!((answer.refusal, answer.pairs, answer.unprobed), (10, 0, 0));
+/// // Replicate 1 has one draw; 2 has it from byte 3 on, inside a draw, and again as its third draw.
+/// let mut log = [0; 68];
+/// nahuitepol::log_write(b"abcdefgh012abcdefgh34567abcdefgh", &[1, 2], &[8, 24], &mut log);
+/// let mut result = [0; 8];
+/// let answer = nahuitepol::check(&log, 1, &mut [0; 16], &mut [0; 8], &mut result);
+/// assert_eq!((answer.refusal, answer.pairs, answer.unprobed), (0, 1, 0));
+/// assert_eq!(result[..4], [1, 2, 16, 1]);
 /// ```
 #[inline]
 pub fn check(log: &[u8], p: u32, tables: &mut [u16], memory: &mut [u32], result: &mut [u32]) -> Checked {

@@ -1,7 +1,10 @@
-//! The overlap check: every block searched for the front of every other one, at every byte offset.
+//! The overlap check: every block searched for the front of every other one, draw by draw.
 
 use crate::log::{self, Entry, Refusal};
-use crate::scans::{self, Work};
+use crate::scans::Work;
+
+/// The bytes of a draw.
+const DRAW: usize = 8;
 
 /// The most draws that a probe may have.
 pub const MOST_DRAWS: u32 = 512;
@@ -31,12 +34,17 @@ pub fn check(log: &[u8], p: u32, work: Work, result_room: usize) -> Result<Check
 
 /// The bytes of a probe of p draws.
 pub fn probe_length(p: u32) -> usize {
-    8 * p as usize
+    DRAW * p as usize
 }
 
 /// What the result room needs for c replicates.
 pub fn numbers_needed(c: usize) -> usize {
     4 * c * (c - 1)
+}
+
+/// The offsets in a block of the draws from which on it has the probe's draws.
+pub fn offsets(probe: &[u8], block: &[u8]) -> Vec<u32> {
+    (0..block.len()).step_by(DRAW).filter(|&at| block[at..].starts_with(probe)).map(|at| at as u32).collect()
 }
 
 /// The pairs of one owner, searched blocks ascending: owner, searched id, first offset, occurrences. None where its
@@ -45,7 +53,7 @@ pub fn pairs_of(log: &[u8], entries: &[Entry], owner: &Entry, probe_length: usiz
     let probe = owner.block(log).get(..probe_length)?;
     let mut pairs = Vec::new();
     for searched in entries.iter().filter(|searched| searched.id != owner.id) {
-        let offsets = scans::positions(probe, searched.block(log));
+        let offsets = offsets(probe, searched.block(log));
         if let Some(&first) = offsets.first() {
             pairs.push([owner.id, searched.id, first, offsets.len() as u32]);
         }

@@ -1,4 +1,4 @@
-//! The overlap check, compared with a search at every offset of every block: its answer, every entry of its
+//! The overlap check, compared with a search at every draw of every block: its answer, every entry of its
 //! three rooms, and what it refuses.
 
 use nahuitepol::Checked;
@@ -6,7 +6,7 @@ use nahuitepol_tests::check::{check, numbers_needed, probe_length, MOST_DRAWS};
 use nahuitepol_tests::log::{self, document_log, draws, Parts};
 use nahuitepol_tests::rooms::Room;
 use nahuitepol_tests::samples::{self, numbered, refused_logs};
-use nahuitepol_tests::scans::Work;
+use nahuitepol_tests::scans::{positions, Work};
 use nahuitepol_tests::words::{fibonacci, Generator};
 
 /// The rooms that the check takes.
@@ -77,12 +77,29 @@ fn compare(parts: &Parts, p: u32) -> Checked {
 
 /// The lines of a check of these blocks, whose ids are 1, 2, ..
 fn lines(blocks: &[&[u8]], p: u32) -> Vec<[u32; 4]> {
-    let parts = numbered(blocks);
-    let mut rooms = Rooms::new(exact(p), numbers_needed(blocks.len()));
+    checked_lines(&numbered(blocks), p)
+}
+
+/// The lines of a check of this log.
+fn checked_lines(parts: &Parts, p: u32) -> Vec<[u32; 4]> {
+    let mut rooms = Rooms::new(exact(p), numbers_needed(parts.entries.len()));
     let answer = rooms.check(&parts.bytes(), p);
     assert_eq!(answer.refusal, 0);
     let numbers = &rooms.result.lend()[..4 * answer.pairs as usize];
     numbers.chunks(4).map(|line| line.try_into().expect("four numbers")).collect()
+}
+
+/// The places that both searches find, which look at every byte offset.
+fn found(probe: &[u8], stream: &[u8]) -> Vec<u32> {
+    let work = Work::exact(probe.len());
+    let mut rooms = Rooms::new(work, stream.len());
+    let plainly = nahuitepol::plain(probe, stream, rooms.tables.lend(), rooms.result.lend());
+    let places = rooms.result.lend()[..plainly.written as usize].to_vec();
+    let mut again = Rooms::new(work, stream.len());
+    let remembered =
+        nahuitepol::remember(probe, stream, again.tables.lend(), again.memory.lend(), again.result.lend());
+    assert_eq!(again.result.lend()[..remembered.written as usize], places);
+    places
 }
 
 fn refused(number: u32, entry: u32) -> Checked {
@@ -134,12 +151,88 @@ fn occurrences_may_overlap_each_other() {
 }
 
 #[test]
-fn occurrences_count_at_every_byte_offset() {
+fn a_hit_inside_a_draw_is_no_overlap() {
     let owner = draws([0x0102_0304_0506_0708]);
-    let mut searched = vec![0; 24];
-    searched[3..11].copy_from_slice(&owner);
-    searched[13..21].copy_from_slice(&owner);
-    assert_eq!(lines(&[&owner, &searched], 1), [[1, 2, 3, 2]]);
+    for offset in 1..=16 {
+        let mut searched = vec![0; 24];
+        searched[offset..offset + 8].copy_from_slice(&owner);
+        assert_eq!(found(&owner, &searched), [offset as u32]);
+        let expected = if offset % 8 == 0 { vec![[1, 2, offset as u32, 1]] } else { vec![] };
+        assert_eq!(lines(&[&owner, &searched], 1), expected, "at byte {offset}");
+    }
+}
+
+#[test]
+fn counters_that_stand_three_bytes_higher_in_the_draw_are_no_overlap() {
+    let owner = draws(1..33);
+    let searched = draws((1..41).map(|counter| counter << 24));
+    assert_eq!(found(&owner, &searched), [3]);
+    assert_eq!(lines(&[&owner, &searched], 32), NO_LINES);
+}
+
+#[test]
+fn a_hit_inside_a_draw_before_one_that_begins_with_a_draw() {
+    let owner = draws(1..33);
+    let searched = [draws((1..33).map(|counter| counter << 24)), draws([0]), owner.clone()].concat();
+    assert_eq!(found(&owner, &searched), [3, 264]);
+    assert_eq!(lines(&[&owner, &searched], 32), [[1, 2, 264, 1]]);
+}
+
+#[test]
+fn equal_bytes_occur_at_every_offset_and_overlap_at_every_draw() {
+    let owner = [7; 16];
+    let searched = [&[1; 3][..], &[7; 45]].concat();
+    assert_eq!(found(&owner, &searched), (3..=32).collect::<Vec<u32>>());
+    assert_eq!(lines(&[&owner, &searched], 2), [[1, 2, 8, 4]]);
+}
+
+/// The lines that a check gave before hits inside a draw were told apart: over every byte offset.
+fn archived_lines(parts: &Parts, p: u32) -> Vec<[u32; 4]> {
+    let log = parts.bytes();
+    let mut lines = Vec::new();
+    for owner in &parts.entries {
+        let Some(probe) = owner.block(&log).get(..probe_length(p)) else { continue };
+        for searched in parts.entries.iter().filter(|searched| searched.id != owner.id) {
+            let offsets = positions(probe, searched.block(&log));
+            if let Some(&first) = offsets.first() {
+                lines.push([owner.id, searched.id, first, offsets.len() as u32]);
+            }
+        }
+    }
+    lines
+}
+
+/// What an archived line tells of today's, without the log: it stays, its occurrences may be fewer, it is gone, or
+/// it may be gone or have both numbers changed.
+fn assert_follows(archived: [u32; 4], today: Option<[u32; 4]>, seen: &mut [u32; 5]) {
+    let [owner, searched, first, number] = archived;
+    let kind = match (first % 8, number, today) {
+        (0, 1, Some(line)) if line == archived => 0,
+        (0, 2.., Some([_, _, f, n])) if f == first && (1..=number).contains(&n) => 1,
+        (1.., 1, None) => 2,
+        (1.., 2.., Some([_, _, f, n])) if f > first && (1..number).contains(&n) => 3,
+        (1.., 2.., None) => 4,
+        _ => panic!("{owner} {searched} {first} {number} became {today:?}"),
+    };
+    seen[kind] += 1;
+}
+
+#[test]
+fn what_becomes_of_the_lines_of_an_archived_night() {
+    let mut generator = Generator::new(43);
+    let mut seen = [0; 5];
+    for _ in 0..6_000 {
+        let parts = random_parts(&mut generator, 6, 8);
+        let p = generator.between(1, 3) as u32;
+        let mut today = checked_lines(&parts, p);
+        for archived in archived_lines(&parts, p) {
+            let same_pair = |line: &&[u32; 4]| line[..2] == archived[..2];
+            assert_follows(archived, today.iter().find(same_pair).copied(), &mut seen);
+            today.retain(|line| line[..2] != archived[..2]);
+        }
+        assert_eq!(today, NO_LINES, "lines that no archived one stands for");
+    }
+    assert!(seen.iter().all(|&times| times > 100), "{seen:?}: some kind is hardly seen");
 }
 
 #[test]
