@@ -21,7 +21,7 @@ pub record Ready (m : ℕ) (t e : List ℕ) : Type 0 where
   pub tables : 2 * m ≤ length t
   pub memory : m ≤ length e
 
--- one search for the probe x in block b, by the step d: how many occurrences are told and the first of them, both of few digits
+-- one search for the probe x in block b: how many occurrences there are at multiples of d, and the first of them; both fit 32 bits
 pub record Sought (d : ℕ) (x s : List ℕ) (b : ℕ) (t e : List ℕ) (r : Tally) (t′ e′ : List ℕ) : Type 0 where
   pub number : r .number ≡ length (multiples d (occurrences x (block s b)))
   pub first : r .first ≡ firstOf (multiples d (occurrences x (block s b)))

@@ -1,22 +1,22 @@
 -- Request Two in its own words, a theorem over the definitions: a pair overlaps when the probe occurs at an offset that is a multiple of 8, and its first offset
 -- and its occurrences are taken over those only. Assumes nothing.
 use mathlib.Core.Path.{_≡_}
-use mathlib.Core.Bool.{Bool, true, false}
+use mathlib.Core.Bool.{Bool, true, false, _&&_}
 use mathlib.Core.List.{List, [], _∷_}
 use Prim.Native.Nat.{ℕ, suc}
 use native.Mathlib.Omega.{arith}
 use lib.ListN.{length}
 use Rattle.basics.specs.Search.{least, howMany}
-use Rattle.scans.specs.Occurrences.{hitAt}
+use Rattle.scans.specs.Occurrences.{occursAt, onStep}
 use Rattle.scans.specs.laws.Steps.{hits-number, hits-first, hits-none, hits-some}
 use Rattle.drawlog.specs.Log.{idAt}
-use Rattle.pairs.specs.Check.{block, probe, Pair, pairWith}
+use Rattle.pairs.specs.Check.{block, probe, pairWith}
 use Rattle.pairs.specs.Promise.{step}
 use Rattle.pairs.specs.laws.Check.{with-none, with-some}
 
 -- owner a's probe occurs in block b at the offset j from the block's start, and j is a multiple of 8
 abbrev pub overlapsAt : ℕ → List ℕ → ℕ → ℕ → ℕ → Bool
-overlapsAt p s a b = hitAt step (probe p s a) (block s b)
+overlapsAt p s a b j = occursAt (probe p s a) (block s b) j && onStep step j
 
 -- the offsets to try: 0 to the block's length
 abbrev pub offsets : List ℕ → ℕ → ℕ

@@ -34,7 +34,7 @@ pub const SHORTEST: u32 = 1;
 
 pub const LONGEST: u32 = 512;
 
-// The bytes from one offset that counts to the next: a draw begins there.
+// An offset counts where a draw begins: at the multiples of its bytes.
 pub const STEP: usize = Log::DRAW as usize;
 
 // The numbers that a pair takes in the result room: owner, searched, first offset, occurrences.
@@ -287,7 +287,7 @@ fn pair(
     pairs + 1
 }
 
-// Searches block b, a stretch of the log, for the probe: how many occurrences begin with a draw, and the first of them.
+// Searches block b, a stretch of the log, for the probe: how often it occurs where a draw begins, and where first.
 fn search(log: &[u8], b: u32, probe: &[u8], tables: &mut [u16], memory: &mut [u32]) -> Tally
     requires { ⌜ b < testedOf (now log) .count ⌝ }
     requires { ⌜ Ready (length (now probe)) (now tables) (now memory) ⌝ }

@@ -24,10 +24,6 @@ occurrences x y = occursFrom x y (suc (length y)) 0
 abbrev pub onStep : ℕ → ℕ → Bool
 onStep d j = eqb (j % d) 0
 
--- x occurs at j, which is a multiple of d
-abbrev pub hitAt : ℕ → List ℕ → List ℕ → ℕ → Bool
-hitAt d x y j = occursAt x y j && onStep d j
-
 -- the multiples of d among the places
 unfoldable pub multiples : ℕ → List ℕ → List ℕ
 multiples d [] = []
