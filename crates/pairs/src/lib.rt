@@ -1,4 +1,4 @@
-// The overlap check: which replicates' blocks contain the first draws of another one's block.
+// The overlap check: which replicates' blocks have, from one of their draws on, the first draws of another one's block.
 //
 // check     refuses, or searches for the probe of each owner in every other block
 // causes    the first cause of refusal, in their order

@@ -167,6 +167,7 @@ fn counters_that_stand_three_bytes_higher_in_the_draw_are_no_overlap() {
     let owner = draws(1..33);
     let searched = draws((1..41).map(|counter| counter << 24));
     assert_eq!(found(&owner, &searched), [3]);
+    assert_eq!(archived_lines(&numbered(&[&owner, &searched]), 32), [[1, 2, 3, 1]]);
     assert_eq!(lines(&[&owner, &searched], 32), NO_LINES);
 }
 
@@ -175,6 +176,7 @@ fn a_hit_inside_a_draw_before_one_that_begins_with_a_draw() {
     let owner = draws(1..33);
     let searched = [draws((1..33).map(|counter| counter << 24)), draws([0]), owner.clone()].concat();
     assert_eq!(found(&owner, &searched), [3, 264]);
+    assert_eq!(archived_lines(&numbered(&[&owner, &searched]), 32), [[1, 2, 3, 2]]);
     assert_eq!(lines(&[&owner, &searched], 32), [[1, 2, 264, 1]]);
 }
 
