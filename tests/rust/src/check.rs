@@ -43,17 +43,28 @@ pub fn numbers_needed(c: usize) -> usize {
 }
 
 /// The offsets in a block of the draws from which on it has the probe's draws.
-pub fn offsets(probe: &[u8], block: &[u8]) -> Vec<u32> {
+fn offsets(probe: &[u8], block: &[u8]) -> Vec<u32> {
     (0..block.len()).step_by(DRAW).filter(|&at| block[at..].starts_with(probe)).map(|at| at as u32).collect()
 }
 
 /// The pairs of one owner, searched blocks ascending: owner, searched id, first offset, occurrences. None where its
 /// block is shorter than a probe.
 pub fn pairs_of(log: &[u8], entries: &[Entry], owner: &Entry, probe_length: usize) -> Option<Vec<[u32; 4]>> {
+    pairs_by(offsets, log, entries, owner, probe_length)
+}
+
+/// The same, over the offsets that another search finds.
+pub fn pairs_by(
+    search: fn(&[u8], &[u8]) -> Vec<u32>,
+    log: &[u8],
+    entries: &[Entry],
+    owner: &Entry,
+    probe_length: usize,
+) -> Option<Vec<[u32; 4]>> {
     let probe = owner.block(log).get(..probe_length)?;
     let mut pairs = Vec::new();
     for searched in entries.iter().filter(|searched| searched.id != owner.id) {
-        let offsets = offsets(probe, searched.block(log));
+        let offsets = search(probe, searched.block(log));
         if let Some(&first) = offsets.first() {
             pairs.push([owner.id, searched.id, first, offsets.len() as u32]);
         }

@@ -2,7 +2,7 @@
 //! three rooms, and what it refuses.
 
 use nahuitepol::Checked;
-use nahuitepol_tests::check::{check, numbers_needed, probe_length, MOST_DRAWS};
+use nahuitepol_tests::check::{check, numbers_needed, pairs_by, probe_length, MOST_DRAWS};
 use nahuitepol_tests::log::{self, document_log, draws, Parts};
 use nahuitepol_tests::rooms::Room;
 use nahuitepol_tests::samples::{self, numbered, refused_logs};
@@ -191,17 +191,8 @@ fn equal_bytes_occur_at_every_offset_and_overlap_at_every_draw() {
 /// The lines that a check gave before hits inside a draw were told apart: over every byte offset.
 fn archived_lines(parts: &Parts, p: u32) -> Vec<[u32; 4]> {
     let log = parts.bytes();
-    let mut lines = Vec::new();
-    for owner in &parts.entries {
-        let Some(probe) = owner.block(&log).get(..probe_length(p)) else { continue };
-        for searched in parts.entries.iter().filter(|searched| searched.id != owner.id) {
-            let offsets = positions(probe, searched.block(&log));
-            if let Some(&first) = offsets.first() {
-                lines.push([owner.id, searched.id, first, offsets.len() as u32]);
-            }
-        }
-    }
-    lines
+    let of_owner = |owner| pairs_by(positions, &log, &parts.entries, owner, probe_length(p));
+    parts.entries.iter().filter_map(of_owner).flatten().collect()
 }
 
 /// What an archived line tells of today's, without the log: it stays, its occurrences may be fewer, it is gone, or
