@@ -203,7 +203,7 @@ nahui_written nahui_log_write(const uint8_t *blocks, size_t blocks_len,
  *   tables   work room of at least 16p numbers, the first 16p of which end at 0
  *   memory   work room of at least 8p entries, the first 8p of which end at 0
  *   result   at least 4 * c * (c - 1) numbers for c replicates; takes four numbers for each overlapping pair,
- *            owners ascending, then b ascending: id of a, id of b, the first such offset, in bytes, and how many
+ *            owners ascending, then b ascending: id of a, id of b, the first such offset in bytes, and how many
  *            such offsets there are; the rest stays as it was
  *
  * The work rooms are asked for, and end so, whether or not any owner is probed.
