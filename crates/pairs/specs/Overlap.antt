@@ -3,16 +3,18 @@
 use mathlib.Core.Path.{_≡_}
 use mathlib.Core.Bool.{Bool, true, false, _&&_}
 use mathlib.Core.List.{List, [], _∷_}
-use Prim.Native.Nat.{ℕ, suc}
+use Prim.Native.Nat.{ℕ, suc, _%_}
 use native.Mathlib.Omega.{arith}
 use lib.ListN.{length}
 use Rattle.basics.specs.Search.{least, howMany}
-use Rattle.scans.specs.Occurrences.{occursAt, onStep}
+use Rattle.scans.specs.Occurrences.{occursAt, occurrences, onStep}
+use Rattle.scans.specs.laws.Hits.{first-on-step}
 use Rattle.scans.specs.laws.Steps.{hits-number, hits-first, hits-none, hits-some}
 use Rattle.drawlog.specs.Log.{idAt}
-use Rattle.pairs.specs.Check.{block, probe, pairWith}
+use Rattle.pairs.specs.Check.{block, probe, Pair, pairWith, pairs}
 use Rattle.pairs.specs.Promise.{step}
 use Rattle.pairs.specs.laws.Check.{with-none, with-some}
+use Rattle.pairs.specs.laws.Each.{Each, each-pair}
 
 -- owner a's probe occurs in block b at the offset j from the block's start, and j is a multiple of 8
 abbrev pub overlapsAt : ℕ → List ℕ → ℕ → ℕ → ℕ → Bool
@@ -40,3 +42,8 @@ overlap p s a b other =
           rw (← hits-first x y step h, ← hits-number x y step) (with-some step x s a b other (omega (arith, h)));
       none = λ h. with-none step x s a b other (hits-none x y step h);
     }
+
+-- So the first offset of every pair is a multiple of 8.
+pub first-aligned : (p : ℕ) (s : List ℕ) (n : ℕ) → Each (λ (q : Pair). q .first % 8 ≡ 0) (pairs step p s n)
+first-aligned p s =
+    each-pair (λ (q : Pair). q .first % 8 ≡ 0) step p s (λ a b l. first-on-step step (occurrences (probe p s a) (block s b)))

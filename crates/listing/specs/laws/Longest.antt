@@ -21,7 +21,7 @@ use Rattle.drawlog.specs.laws.Promise.{tested-yes}
 use Rattle.pairs.specs.Check.{probed, Pair, pairsOf, pairs, unprobed}
 use Rattle.pairs.specs.Promise.{step}
 use Rattle.pairs.specs.laws.Check.{pairs-next, pairs-most, unprobed-le}
-use Rattle.pairs.specs.laws.Owners.{Each}
+use Rattle.pairs.specs.laws.Each.{Each}
 use Rattle.pairs.specs.laws.Sizes.{Small, of-small}
 use Rattle.listing.specs.Listing.{draws, totalWord, refusedWord, headLine, pairLine, pairLines, unprobedLine, totalLine, refusedLine, ownerText, ownersText, acceptedText, listing}
 use Rattle.listing.specs.Promise.{longest, Written}

@@ -12,7 +12,8 @@ use Rattle.drawlog.specs.Log.{idAt}
 use Rattle.drawlog.specs.laws.Promise.{holding}
 use Rattle.pairs.specs.Check.{Pair, pairsOf, pairs, numbers}
 use Rattle.pairs.specs.laws.Check.{number-at, length-numbers}
-use Rattle.pairs.specs.laws.Owners.{Each, Bears, Above, of-bears, later, later-above, pairs-split}
+use Rattle.pairs.specs.laws.Each.{Each}
+use Rattle.pairs.specs.laws.Owners.{Bears, Above, of-bears, later, later-above, pairs-split}
 use Rattle.pairs.specs.Promise.{step}
 use Rattle.listing.specs.Listing.{draws}
 use Rattle.listing.specs.Inside.{pairIn, ownedFrom, Holds}

@@ -99,6 +99,11 @@ unfolding pairAt
 pair-some i j [] n = absurd (n refl)
 pair-some i j (f ∷ fs) n = refl
 
+-- the pair of owner a, whose probe is x, with block b, if there is one
+abbrev pub made : ℕ → List ℕ → List ℕ → ℕ → ℕ → Pair
+made d x s a b =
+    let fs = multiples d (occurrences x (block s b)) in record { owner = idAt s a; other = idAt s b; first = firstOf fs; number = length fs }
+
 module _ (d : ℕ) (x s : List ℕ) (a b : ℕ) where
   pub with-self : a ≡ b → pairWith d x s a b ≡ []
   unfolding pairWith
@@ -109,13 +114,7 @@ module _ (d : ℕ) (x s : List ℕ) (a b : ℕ) where
   with-none n z = rw (ne-eqb a b n) (pair-none (idAt s a) (idAt s b) (multiples d (occurrences x (block s b))) z)
 
   pub with-some : (a ≡ b → ⊥) → (length (multiples d (occurrences x (block s b))) ≡ 0 → ⊥)
-      → pairWith d x s a b
-      ≡ record {
-        owner = idAt s a;
-        other = idAt s b;
-        first = firstOf (multiples d (occurrences x (block s b)));
-        number = length (multiples d (occurrences x (block s b)));
-      } ∷ []
+      → pairWith d x s a b ≡ made d x s a b ∷ []
   unfolding pairWith
   with-some n z = rw (ne-eqb a b n) (pair-some (idAt s a) (idAt s b) (multiples d (occurrences x (block s b))) z)
 

@@ -2,10 +2,11 @@
 use mathlib.Core.Path.{_≡_, refl, sym, ap, _∙_}
 use mathlib.Core.Bool.{true, false, cond}
 use mathlib.Core.List.{List, [], _∷_, _++_, append-assoc, append-nil}
-use Prim.Native.Nat.{ℕ, zero, suc, _+_, _≤_, _<_, zero-le}
-use native.Mathlib.Nat.{mod-one}
+use Prim.Native.Nat.{ℕ, zero, suc, _+_, _≤_, _<_, _%_, zero-le}
+use native.Mathlib.Nat.{mod-one, zero-mod}
 use native.Mathlib.Decide.{decLt}
 use native.Mathlib.Omega.{arith}
+use borrow.Author.Tests.{eqb-true}
 use lib.ListN.{length, getD, take, drop, set, length-append, length-take, length-drop, drop-of-length-le}
 use lib.Seq.{take-all, drop-cons, set-at, set-out, take-append-le}
 use Rattle.basics.specs.Lists.{at}
@@ -53,6 +54,15 @@ multiples-le d (j ∷ ps) =
     bool-case (onStep d j) (λ t. length {A = ℕ} (elim t [ true ↦ j ∷ multiples d ps | false ↦ multiples d ps ]) ≤ suc (length ps))
     (λ e. omega (arith, multiples-le d ps))
     (λ e. omega (arith, multiples-le d ps))
+
+-- the first of them is one; so is 0, where there is none
+pub first-on-step : (d : ℕ) (ps : List ℕ) → firstOf (multiples d ps) % d ≡ 0
+unfolding multiples
+first-on-step d [] = zero-mod d
+first-on-step d (j ∷ ps) =
+    bool-case (onStep d j) (λ t. firstOf (elim t [ true ↦ j ∷ multiples d ps | false ↦ multiples d ps ]) % d ≡ 0)
+    (λ e. eqb-true (j % d) 0 e)
+    (λ e. first-on-step d ps)
 
 -- of 1, every place is
 pub on-one : (j : ℕ) → onStep 1 j ≡ true
