@@ -31,19 +31,19 @@ module _ (P : Pair → Type 0) where
   each-map Q f [] u = tt
   each-map Q f (q ∷ qs) u = (f q (u .0), each-map Q f qs (u .1))
 
-module _ (P : Pair → Type 0) (d p : ℕ) (s : List ℕ) where
   each-at : (i j : ℕ) (fs : List ℕ) → P (record { owner = i; other = j; first = firstOf fs; number = length fs }) → Each P (pairAt i j fs)
   unfolding pairAt
   each-at i j [] u = tt
   each-at i j (f ∷ fs) u = (u, tt)
 
+module _ (P : Pair → Type 0) (d p : ℕ) (s : List ℕ) where
   each-with : (x : List ℕ) (a n : ℕ) → ((b : ℕ) → b < n → P (made d x s a b)) → Each P (pairsWith d x s a n)
   unfolding pairsWith pairWith
   each-with x a zero h = tt
   each-with x a (suc b) h =
       let fs = multiples d (occurrences x (block s b)) in
       each-append P (pairsWith d x s a b) (pairWith d x s a b) (each-with x a b (λ k l. h k (omega arith)))
-      (each-else P (eqb a b) (pairAt (idAt s a) (idAt s b) fs) (each-at (idAt s a) (idAt s b) fs (h b (omega arith))))
+      (each-else P (eqb a b) (pairAt (idAt s a) (idAt s b) fs) (each-at P (idAt s a) (idAt s b) fs (h b (omega arith))))
 
   pub each-of : (a : ℕ) → ((b : ℕ) → b < count s → P (made d (probe p s a) s a b)) → Each P (pairsOf d p s a)
   unfolding pairsOf
