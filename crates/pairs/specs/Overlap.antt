@@ -24,6 +24,7 @@ overlapsAt p s a b j = occursAt (probe p s a) (block s b) j && onStep step j
 abbrev pub offsets : List ℕ → ℕ → ℕ
 offsets s b = suc (length (block s b))
 
+-- Owner a and block b, of which `pairsOf` takes the pair where a is probed; an unprobed owner has none.
 pub record Overlap (p : ℕ) (s : List ℕ) (a b : ℕ) : Type 0 where
   -- one such offset makes a pair, of which are told the least and how many there are
   pub some : (j : ℕ) → overlapsAt p s a b j ≡ true
