@@ -1,13 +1,18 @@
 -- Laws of rooms: after a call, and while a loop fills one. Assumes nothing.
 use mathlib.Core.Path.{_≡_, refl, sym, ap, _∙_}
+use mathlib.Core.Logic.{⊎-elim}
+use mathlib.Core.Bool.{cond}
 use mathlib.Core.List.{List, [], _∷_, _++_, append-assoc}
 use Prim.Native.Nat.{ℕ, zero, suc, _+_, _-_, _≤_, _<_, min}
 use native.Mathlib.Numerals.{add-one}
 use native.Mathlib.Omega.{arith}
-use lib.ListN.{length, getD, drop, set, replicate, length-replicate, getD-replicate, length-append, length-drop, List·getD-append}
-use lib.Seq.{drop-cons, drop-at, drop-drop, set-at, set-append-left}
+use borrow.Author.Tests.{le-leb, lt-leb}
+use lib.Dec.{leb}
+use lib.ListN.{length, getD, take, drop, set, replicate, length-replicate, getD-replicate, length-append, length-drop, List·getD-append, take-append-drop}
+use lib.Seq.{drop-cons, drop-at, drop-drop, set-at, set-append-left, getD-take, length-take-le}
 use Rattle.basics.specs.Lists.{at, table}
 use Rattle.basics.specs.Rooms.{front, roomAfter, Begins}
+use Rattle.basics.specs.laws.Tests.{le-or-lt}
 use Rattle.basics.specs.laws.Lists.{length-table, at-table, table-is, table-ext, set-table}
 
 -- a refusal leaves the room
@@ -118,3 +123,31 @@ filled-set {f} {g} {d₀} {d} {i} {b} {v} p l e other =
 pub filled-then : {f g : ℕ → ℕ} {d₀ d d′ : List ℕ} {i n : ℕ} → Filled f d₀ i d → Filled g d n d′ → i ≤ n → Filled g d₀ n d′
 filled-then {f} {g} {d₀} {d} {d′} {i} {n} p q l =
     record { is = front-then (table i f) (table n g) d₀ d (p .is) (q .is) (omega (arith, length-table i f, length-table n g)) }
+
+-- A LOOP THAT FILLS DOWNWARD: from place i on the entries of f, and before it what stood in the room d
+abbrev pub downTo : (ℕ → ℕ) → List ℕ → ℕ → ℕ → ℕ
+downTo f d i k = cond (leb i k) (f k) (at d k)
+
+pub down-on : (f : ℕ → ℕ) (d : List ℕ) (i k : ℕ) → i ≤ k → downTo f d i k ≡ f k
+down-on f d i k l = rw (le-leb i k l)
+
+pub down-none : (f : ℕ → ℕ) (d : List ℕ) (n : ℕ) → n ≤ length d → Filled (downTo f d n) d n d
+down-none f d n h =
+    let t : take n d ≡ table n (downTo f d n) =
+    table-is n (downTo f d n) (take n d) (length-take-le n d h) (λ k l. getD-take n d k 0 l ∙ rw (lt-leb n k l)) in
+    record { is = sym (take-append-drop n d) ∙ rw (t, length-table n (downTo f d n)) }
+
+pub down-more : (f : ℕ → ℕ) {d₀ d : List ℕ} (n i : ℕ) {v : ℕ} → Filled (downTo f d₀ (i + 1)) d₀ n d → i < n → v ≡ f i → Filled (downTo f d₀ i) d₀ n (set d i v)
+down-more f {d₀} {d} n i {v} g h e =
+    filled-set g h (down-on f d₀ i i (omega arith) ∙ sym e)
+    (λ k l other.
+    ⊎-elim
+    (λ (u : i ≤ k). down-on f d₀ (i + 1) k (omega arith) ∙ sym (down-on f d₀ i k u))
+    (λ (u : k < i). rw (lt-leb (i + 1) k (omega arith), lt-leb i k u))
+    (le-or-lt i k))
+
+pub down-at : (f : ℕ → ℕ) {d₀ d : List ℕ} (n i : ℕ) → Filled (downTo f d₀ i) d₀ n d → (k : ℕ) → i ≤ k → k < n → at d k ≡ f k
+down-at f {d₀} n i g k l u = filled-at g k u ∙ down-on f d₀ i k l
+
+pub down-all : (f : ℕ → ℕ) {d₀ d : List ℕ} (n : ℕ) → Filled (downTo f d₀ 0) d₀ n d → d ≡ front (table n f) d₀
+down-all f {d₀} n g = filled-all (filled-ext g (λ k l. down-on f d₀ 0 k (omega arith))) refl

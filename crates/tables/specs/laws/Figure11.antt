@@ -18,7 +18,7 @@ use Rattle.basics.specs.Rooms.{front}
 use Rattle.basics.specs.laws.Tests.{same-test, le-or-lt}
 use Rattle.basics.specs.laws.Search.{least-is}
 use Rattle.basics.specs.laws.Lists.{length-table, table-is}
-use Rattle.basics.specs.laws.Rooms.{Filled, filled-none, filled-ext, filled-at, filled-set, filled-then, filled-all}
+use Rattle.basics.specs.laws.Rooms.{Filled, filled-none, filled-ext, filled-at, filled-set, filled-then, filled-all, downTo, down-on, down-none}
 use Rattle.tables.specs.Suffix.{suffixAt}
 use Rattle.tables.specs.Shift.{fits, shiftAt, shiftTable}
 use Rattle.tables.specs.laws.Suffix.{suffix-is, suffix-le, suffix-agrees, suffix-stops}
@@ -107,16 +107,13 @@ above x q = upFrom x q (q + 1)
 
 -- the room d with v from place `from` on, for whoever looks no further than it was written
 abbrev pub spreadAt : List ℕ → ℕ → ℕ → ℕ → ℕ
-spreadAt d from v q = cond (leb from q) v (at d q)
+spreadAt d from v = downTo (λ q. v) d from
 
 pub spread-none : (d : List ℕ) (from v : ℕ) → from ≤ length d → Filled (spreadAt d from v) d from d
-spread-none d from v h =
-    let t : take from d ≡ table from (spreadAt d from v) =
-    table-is from (spreadAt d from v) (take from d) (length-take-le from d h) (λ q l. getD-take from d q 0 l ∙ rw (lt-leb from q l)) in
-    record { is = sym (take-append-drop from d) ∙ rw (t, length-table from (spreadAt d from v)) }
+spread-none d from v h = down-none (λ q. v) d from h
 
 pub spread-on : (d : List ℕ) (from v q : ℕ) → from ≤ q → v ≡ spreadAt d from v q
-spread-on d from v q l = rw (le-leb from q l)
+spread-on d from v q l = sym (down-on (λ q. v) d from q l)
 
 --     0 ......... j ......... s ........ m−1
 --     | written,  | no shift  | not tried yet
