@@ -15,6 +15,8 @@ pub mod Promise
 pub mod Apart
 -- the starred rows
 pub mod Figures
+-- how many bytes are compared to fill the suffix table
+pub mod Comparisons
 -- what the private functions promise each other: no part of a public promise
 pub mod Inside
 -- the laws, for the proofs of this crate and of those above it

@@ -9,6 +9,10 @@ pub mod Occurrence
 pub mod Refusal
 -- pairs in one room: put together, taken apart, written
 pub mod Both
+-- what an earlier run of equal bytes tells of the next suffix entry: lemma 4.1 of source 001
+pub mod Lemma41
+-- the suffix table in linear time: figure 9 of source 001
+pub mod Figure9
 -- the shift table in linear time, out of the suffix table: figure 11 of source 001
 pub mod Figure11
 -- the occurrence table, byte after byte

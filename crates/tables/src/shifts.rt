@@ -17,6 +17,7 @@ ghost use Rattle.tables.specs.Both.{firsts, seconds};
 ghost use Rattle.tables.specs.Refusal.{longest};
 ghost use Rattle.tables.specs.Inside.{Secondly};
 ghost use Rattle.tables.specs.laws.Figure11.{ends, above, spreadAt};
+use crate::suffixes::suffix;
 
 // Fills the second place of each pair, in a room that is long enough and has the suffix table at the first places.
 pub(crate) fn fill(x: &[u8], room: &mut [u16])
@@ -84,12 +85,4 @@ fn inner(x: &[u8], room: &mut [u16])
         room[2 * q + 1] = (last - i) as u16;
         i += 1;
     }
-}
-
-// Entry i of the suffix table: the first of pair i.
-fn suffix(room: &[u16], i: usize) -> usize
-    requires { ⌜ (i < longest) × (2 * i < length (now room)) ⌝ }
-    ensures { λ r. ⌜ r ≡ at (now (room .entry)) (2 * i) ⌝ }
-{
-    basics::wide16(room[2 * i])
 }

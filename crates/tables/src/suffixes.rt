@@ -1,36 +1,91 @@
-// The suffix table: entry i is the length of the longest common suffix of x[0..i] and x.
+// The suffix table in linear time: SUFFIXES, figure 9 of source document 001, section 4.1.
+//
+// Entry i is the length of the longest common suffix of x[0..i] and x. The entries are set from the last one down. With f
+// and g of the page, x[g + 1..f] is the longest such suffix found so far that reaches down to g:
+//
+//     x  . . . a v v v v v v . . . . . b v v v v v v      a, b differ, or there is no a
+//              g   i       f             j         m-1    j = i + m - 1 - f
+//
+// What ends at i within the v on the left ends at j within the v on the right, and entry j is set already.
+//
+// The numbers behind the lines are the figure's. Two departures from it:
+// 1. f starts at m - 1. On the page it has no value before line 7; line 4 reads it only where i > g, and so never before.
+// 2. g falls to -1, so g + 1 is kept, as `g1`: i > g is g1 <= i, i - g is i + 1 - g1, and f - g is f + 1 - g1.
 ghost use mathlib.Core.Path.{_≡_};
-ghost use Prim.Native.Nat.{_*_, _<_, _≤_};
+ghost use Prim.Native.Nat.{_+_, _*_, _-_, _<_, _≤_};
 ghost use lib.ListN.{length};
-ghost use Rattle.tables.specs.Suffix.{suffixAt, suffixTable};
+ghost use Rattle.basics.specs.Lists.{at};
+ghost use Rattle.tables.specs.Suffix.{suffixTable};
 ghost use Rattle.tables.specs.Refusal.{longest};
 ghost use Rattle.tables.specs.Inside.{Firstly};
+ghost use Rattle.tables.specs.Comparisons.{falls, compared, comparisons};
+
+// Where g + 1 stands after line 9, and the comparisons made so far.
+pub(crate) struct Fallen {
+    pub g1: usize,
+    pub count: usize,
+}
 
 // Fills the first place of each pair, in a room that is long enough.
 pub(crate) fn fill(x: &[u8], room: &mut [u16])
-    requires { ⌜ (length (now x) ≤ longest) × (2 * length (now x) ≤ length (now room)) ⌝ }
+    requires { ⌜ (1 ≤ length (now x)) × (length (now x) ≤ longest) × (2 * length (now x) ≤ length (now room)) ⌝ }
     ensures { λ _. ⌜ Firstly (suffixTable (now (x .entry))) (now (room .entry)) (now (room .exit)) ⌝ }
 {
-    let mut i = 0;
-    while i < x.len() {
-        let k = common(x, i);
-        room[2 * i] = k as u16;
-        i += 1;
-    }
+    suffixes(x, room);
 }
 
-// The length of the longest common suffix of x[0..i] and x, found by comparing from both ends downward.
-fn common(x: &[u8], i: usize) -> usize
-    requires { ⌜ i < length (now x) ⌝ }
-    ensures { λ r. ⌜ r ≡ suffixAt (now (x .entry)) i ⌝ }
+// SUFFIXES(x, m), and the comparisons that line 8 makes.
+fn suffixes(x: &[u8], room: &mut [u16]) -> usize
+    requires { ⌜ (1 ≤ length (now x)) × (length (now x) ≤ longest) × (2 * length (now x) ≤ length (now room)) ⌝ }
+    ensures table { λ _. ⌜ Firstly (suffixTable (now (x .entry))) (now (room .entry)) (now (room .exit)) ⌝ }
+    ensures count { λ r. ⌜ r ≡ comparisons (now (x .entry)) ⌝ }
 {
     let last = x.len() - 1;
-    let mut k = 0;
-    while k <= i {
-        if x[i - k] != x[last - k] {
-            return k;
+    let mut f = last;
+    let mut count = 0;
+    room[2 * last] = x.len() as u16; // 1
+    let mut g1 = x.len(); // 2
+    let mut i = last;
+    while 0 < i { // 3
+        i -= 1;
+        if g1 <= i && suffix(room, i + last - f) < i + 1 - g1 { // 4
+            room[2 * i] = room[2 * (i + last - f)]; // 5
+        } else {
+            g1 = basics::smaller(g1, i + 1); // 6
+            f = i; // 7
+            let fallen = fall(x, f, g1, count); // 8 and 9
+            g1 = fallen.g1;
+            count = fallen.count;
+            room[2 * i] = (f + 1 - g1) as u16; // 10
         }
-        k += 1;
     }
-    k
+    count
+}
+
+// Lines 8 and 9: g falls as long as x[g] = x[g + m - 1 - f].
+fn fall(x: &[u8], f: usize, g1: usize, count: usize) -> Fallen
+    requires { ⌜ (f < length (now x)) × (length (now x) ≤ longest) × (g1 ≤ f + 1) × (count ≤ 2 * longest) ⌝ }
+    ensures low { λ r. ⌜ r .g1 ≡ g1 - falls (now (x .entry)) f g1 ⌝ }
+    ensures count { λ r. ⌜ r .count ≡ count + compared (now (x .entry)) f g1 ⌝ }
+{
+    let last = x.len() - 1;
+    let mut low = g1;
+    let mut c = count;
+    while 0 < low {
+        let g = low - 1;
+        c += 1;
+        if x[g] != x[g + last - f] { // 8
+            return Fallen { g1: low, count: c };
+        }
+        low = g; // 9
+    }
+    Fallen { g1: low, count: c }
+}
+
+// Entry i of the suffix table: the first of pair i.
+pub(crate) fn suffix(room: &[u16], i: usize) -> usize
+    requires { ⌜ (i < longest) × (2 * i < length (now room)) ⌝ }
+    ensures { λ r. ⌜ r ≡ at (now (room .entry)) (2 * i) ⌝ }
+{
+    basics::wide16(room[2 * i])
 }
