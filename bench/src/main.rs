@@ -1,6 +1,6 @@
 //! Times whole searches, tables included, of streams of 61,440 bytes for their own first 256: the library's two scans
-//! and a plain Rust scan by the same rules, one after another in each round. Rooms are lent once, and the first rounds
-//! are not counted.
+//! and a plain Rust scan by the same rules, one after another in each round. Then the suffix table of their first 4,096
+//! bytes: the library's call and the simple filling in Rust. Rooms are lent once, and the first rounds are not counted.
 
 mod plain;
 
@@ -10,6 +10,7 @@ use std::time::Instant;
 
 const STREAM: usize = 61_440;
 const PROBE: usize = 256;
+const LONGEST: usize = 4_096;
 const WARM: usize = 10;
 const ROUNDS: usize = 201;
 
@@ -65,6 +66,11 @@ fn counts(answer: nahuitepol::Searched) -> Counts {
 }
 
 fn main() {
+    searches();
+    fillings();
+}
+
+fn searches() {
     println!("microseconds, least and median of {ROUNDS}; each ratio is of medians, to plain Rust");
     for (name, y) in streams() {
         let x = y[..PROBE].to_vec();
@@ -90,6 +96,25 @@ fn main() {
         println!(
             "{:16} occurrences {}, windows {}, comparisons plain {}, remembering {}",
             "", by_plain.occurrences, by_plain.windows, by_plain.comparisons, by_memory.comparisons
+        );
+    }
+}
+
+fn fillings() {
+    println!("suffix table of {LONGEST} bytes; each ratio is of medians, simple to library");
+    for (name, y) in streams() {
+        let x = &y[..LONGEST];
+        let (mut simple, mut library) = (Times(vec![]), Times(vec![]));
+        let (mut rust, mut room) = (vec![0; LONGEST], vec![0; LONGEST]);
+        for _ in 0..WARM + ROUNDS {
+            simple.take(|| plain::fill_suffix(x, &mut rust));
+            assert_eq!(library.take(|| nahuitepol::suffix(x, &mut room)), 0);
+            assert!(rust == room, "the two fillings differ");
+        }
+        let (simple, library) = (simple.told(), library.told());
+        println!(
+            "{name:16} simple {:8.1} {:8.1}  library {:8.1} {:8.1}  ({:.2})",
+            simple.0, simple.1, library.0, library.1, simple.1 / library.1
         );
     }
 }

@@ -1,6 +1,6 @@
 //! A plain Boyer-Moore scan in ordinary Rust, by the rules of document 01: what the library is measured against.
-//! Whole calls: the tables are filled anew each time, the suffix table simply and the shift table by figure 11 of
-//! source 001, as in the library. Rooms are lent once.
+//! Whole calls: the tables are filled anew each time, the shift table by figure 11 of source 001, as in the library, and
+//! the suffix table entry by entry, where the library has figure 9. Rooms are lent once.
 
 pub struct Rooms {
     pub suffix: Vec<u32>,
@@ -15,7 +15,8 @@ pub struct Counts {
     pub comparisons: u64,
 }
 
-fn fill_suffix(x: &[u8], suffix: &mut [u32]) {
+/// The simple filling: each entry by itself, compared from both ends downward.
+pub fn fill_suffix(x: &[u8], suffix: &mut [u32]) {
     let last = x.len() - 1;
     for i in 0..x.len() {
         let mut k = 0;

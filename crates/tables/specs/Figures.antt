@@ -12,6 +12,7 @@ use Rattle.tables.specs.Shift.{fitsNear, fitsFar, fits, shiftAt, shiftTa
 use Rattle.tables.specs.Occurrence.{standsAt, occurrenceAt, occurrenceTable}
 use Rattle.tables.specs.Both.{inPairs, bothTables}
 use Rattle.tables.specs.Refusal.{refusalOf}
+use Rattle.tables.specs.Comparisons.{lcsuf, falls, compared, told, rounds, comparisons}
 
 abbrev a : ℕ
 a = 97
@@ -93,6 +94,11 @@ together = refl
 periods : map (λ (r : Row). shiftAt (r .probe) 0) rows ≡ map (λ (r : Row). period (r .probe)) rows
 unfolding rows same least fitsNear fitsFar fits shiftAt period
 periods = refl
+
+-- what filling the suffix table of each row compares, counted by hand beside figure 9
+counted : map (λ (r : Row). comparisons (r .probe)) rows ≡ 0 ∷ 2 ∷ 3 ∷ 3 ∷ 5 ∷ []
+unfolding rows same greatest endsAlike suffixAt lcsuf falls compared told rounds comparisons
+counted = refl
 
 -- a probe of 4,096 bytes is accepted, one of 4,097 refused 2; a room with k numbers for each byte is accepted, one of one less refused 4
 edges : map (refusalOf 1 4096) (4096 ∷ 4095 ∷ []) ≡ 0 ∷ 4 ∷ []

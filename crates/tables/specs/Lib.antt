@@ -13,10 +13,10 @@ pub mod Refusal
 pub mod Promise
 -- taken apart, the pairs are the two tables: of the definitions, and of the calls
 pub mod Apart
--- the starred rows
-pub mod Figures
 -- how many bytes are compared to fill the suffix table
 pub mod Comparisons
+-- the starred rows
+pub mod Figures
 -- what the private functions promise each other: no part of a public promise
 pub mod Inside
 -- the laws, for the proofs of this crate and of those above it

@@ -3,7 +3,7 @@
 // Names follow source document 001 (Crochemore, Hancart, Lecroq: A unifying look at the Apostolico-Giancarlo
 // string-matching algorithm), sections 2 and 4: the probe is x and has m bytes.
 //
-// suffix     entry i: the longest common suffix of x[0..i] and x            module suffixes
+// suffix     entry i: the longest common suffix of x[0..i] and x            module suffixes, figure 9
 // shift      entry i: how far the probe may move after a stop at i          module shifts, figure 11
 // occurrence entry a: how far before the last place byte a stands last      module places
 //

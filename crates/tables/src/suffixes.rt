@@ -1,16 +1,18 @@
 // The suffix table in linear time: SUFFIXES, figure 9 of source document 001, section 4.1.
 //
-// Entry i is the length of the longest common suffix of x[0..i] and x. The entries are set from the last one down. With f
-// and g of the page, x[g + 1..f] is the longest such suffix found so far that reaches down to g:
+// Entry i is the length of the longest common suffix of x[0..i] and x. The entries are set from the last one down. Of the
+// suffixes found so far, v = x[g + 1..f] is one that reaches down furthest:
 //
-//     x  . . . a v v v v v v . . . . . b v v v v v v      a, b differ, or there is no a
-//              g   i       f             j         m-1    j = i + m - 1 - f
+//     x  . . a v v v v v v . . . . b v v v v v v      v stands again at the end of x; a and b differ, or there is no a
+//            g     i     f               j     m-1    j = i + m - 1 - f
 //
-// What ends at i within the v on the left ends at j within the v on the right, and entry j is set already.
+// What ends at i within v ends at j as well, and entry j is set already: lemma 4.1 (specs/laws/Lemma41.antt).
 //
 // The numbers behind the lines are the figure's. Two departures from it:
 // 1. f starts at m - 1. On the page it has no value before line 7; line 4 reads it only where i > g, and so never before.
 // 2. g falls to -1, so g + 1 is kept, as `g1`: i > g is g1 <= i, i - g is i + 1 - g1, and f - g is f + 1 - g1.
+//
+// Line 8 compares fewer than 2m times (theorem 4.3). The count is kept for that promise alone: `fill` drops it.
 ghost use mathlib.Core.Path.{_≡_};
 ghost use Prim.Native.Nat.{_+_, _*_, _-_, _<_, _≤_};
 ghost use lib.ListN.{length};
@@ -34,11 +36,12 @@ pub(crate) fn fill(x: &[u8], room: &mut [u16])
     suffixes(x, room);
 }
 
-// SUFFIXES(x, m), and the comparisons that line 8 makes.
+// SUFFIXES(x, m); answers how many comparisons line 8 made.
 fn suffixes(x: &[u8], room: &mut [u16]) -> usize
     requires { ⌜ (1 ≤ length (now x)) × (length (now x) ≤ longest) × (2 * length (now x) ≤ length (now room)) ⌝ }
     ensures table { λ _. ⌜ Firstly (suffixTable (now (x .entry))) (now (room .entry)) (now (room .exit)) ⌝ }
     ensures count { λ r. ⌜ r ≡ comparisons (now (x .entry)) ⌝ }
+    ensures few { λ r. ⌜ r < 2 * length (now (x .entry)) ⌝ }
 {
     let last = x.len() - 1;
     let mut f = last;
@@ -62,7 +65,7 @@ fn suffixes(x: &[u8], room: &mut [u16]) -> usize
     count
 }
 
-// Lines 8 and 9: g falls as long as x[g] = x[g + m - 1 - f].
+// Lines 8 and 9: g falls while x[g] = x[g + m - 1 - f]. The filling compares bytes here and nowhere else.
 fn fall(x: &[u8], f: usize, g1: usize, count: usize) -> Fallen
     requires { ⌜ (f < length (now x)) × (length (now x) ≤ longest) × (g1 ≤ f + 1) × (count ≤ 2 * longest) ⌝ }
     ensures low { λ r. ⌜ r .g1 ≡ g1 - falls (now (x .entry)) f g1 ⌝ }

@@ -14,9 +14,11 @@
 //! | [`listing`] | Overlap check: what `overlap` prints |
 //! | [`writer`] | Request One: the writer of logs |
 //!
+//! [`figure9`] fills the suffix table as source document 001 prints it (request Six).
 //! [`words`] makes probes and streams, [`samples`] sound and damaged logs, [`rooms`] rooms that show every write.
 
 pub mod check;
+pub mod figure9;
 pub mod listing;
 pub mod log;
 pub mod rooms;

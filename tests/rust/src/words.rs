@@ -44,6 +44,20 @@ impl Generator {
         y[start..start + length].to_vec()
     }
 
+    /// A word of stretches of itself, each before what it repeats, with any letter in between.
+    pub fn copied(&mut self, letters: usize, length: usize) -> Vec<u8> {
+        let mut word = vec![];
+        while word.len() < length {
+            word.push(self.below(letters) as u8);
+            let copied = self.below(word.len() + 1);
+            let stretch = self.stretch(&word, copied);
+            word.extend(stretch);
+        }
+        word.truncate(length);
+        word.reverse();
+        word
+    }
+
     /// The word with as many flaws as said: letters anywhere, which may be the ones that stood there.
     pub fn flawed(&mut self, word: &[u8], letters: usize, flaws: usize) -> Vec<u8> {
         let mut flawed = word.to_vec();

@@ -2,11 +2,12 @@
 
 use std::fmt::Debug;
 
+use nahuitepol_tests::figure9;
 use nahuitepol_tests::rooms::{Number, Room};
 use nahuitepol_tests::tables::{
     self, occurrence_table, pairs, period, shift_table, suffix_table, taken_apart, LONGEST_PROBE,
 };
-use nahuitepol_tests::words::{all_words_between, fibonacci, repeated, worst_probe, Generator};
+use nahuitepol_tests::words::{all_words_between, fibonacci, repeated, with_byte, worst_probe, Generator};
 
 /// A call that writes to a room, and what it is to write.
 struct TableCall<T> {
@@ -189,6 +190,46 @@ fn fibonacci_words_and_the_worst_family() {
     }
     for k in 1..=60 {
         compare(&worst_probe(k));
+    }
+}
+
+#[test]
+fn probes_that_repeat_stretches_of_themselves() {
+    let mut generator = Generator::new(6);
+    for _ in 0..3_000 {
+        let letters = generator.pick(&[1, 2, 3, 256]);
+        let length = generator.between(1, 90);
+        compare(&generator.copied(letters, length));
+    }
+    for _ in 0..300 {
+        let length = generator.between(LONGEST_PROBE / 2, LONGEST_PROBE);
+        let x = generator.copied(2, length);
+        assert!(written(&SUFFIX, &x) == suffix_table(&x), "suffix of {x:?}");
+    }
+}
+
+#[test]
+fn a_run_of_equal_bytes_ends_anywhere() {
+    for length in (1..=40).chain([300]) {
+        for flaw in 0..length {
+            compare(&with_byte(&vec![b'a'; length], flaw, b'b'));
+        }
+    }
+}
+
+#[test]
+fn the_printed_figure_gives_the_same_entries_with_fewer_than_2m_comparisons() {
+    let mut generator = Generator::new(7);
+    let random = (0..3_000).map(|_| {
+        let letters = generator.pick(&[1, 2, 3, 256]);
+        let length = generator.between(1, 300);
+        generator.copied(letters, length)
+    });
+    let longest = [vec![7; LONGEST_PROBE], fibonacci(LONGEST_PROBE), repeated(b"abaab", LONGEST_PROBE)];
+    for x in all_words_between(2, 1, 12).chain(random).chain(longest) {
+        let (printed, comparisons) = figure9::suffixes(&x);
+        assert!(written(&SUFFIX, &x) == printed, "suffix of {x:?}");
+        assert!(comparisons < 2 * x.len(), "{comparisons} comparisons for {x:?}");
     }
 }
 

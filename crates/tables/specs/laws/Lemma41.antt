@@ -66,20 +66,20 @@ module _ (x : List ℕ) (i f g1 : ℕ) (a : Furthest x (i + 1) f g1) (l : g1 ≤
       suffix-agrees x f (omega (arith, a .high)) (f - u) (omega (arith, a .low, a .reached)) u w (omega (arith, a .low)) (omega (arith, a .low))
 
   module _ (j : ℕ) (ej : j + f + 1 ≡ i + length x) where
-    jm : j < length x
-    jm = omega (arith, a .low)
+    inside : j < length x
+    inside = omega (arith, a .low)
 
     -- what agrees with the end of x at j agrees with it at i, as long as it lies within v
     same-as : (t : ℕ) → t < suffixAt x j → g1 + t ≤ i → Agree x i t
     same-as t d b u v eu ev =
-        again t u (j - t) b eu (omega (arith, a .low, a .high)) ∙ suffix-agrees x j jm t d (j - t) v (omega (arith, a .low, a .high)) ev
+        again t u (j - t) b eu (omega (arith, a .low, a .high)) ∙ suffix-agrees x j inside t d (j - t) v (omega (arith, a .low, a .high)) ev
 
     -- the first case
     first : g1 + suffixAt x j ≤ i → suffixAt x i ≡ suffixAt x j
     first b =
         let k : ℕ = suffixAt x j in
         suffix-is x i (omega (arith, a .low, a .high)) k (omega arith) (λ t d. same-as t d (omega arith))
-        (inr (λ e. suffix-stops x j jm (omega (arith, a .low, a .high)) (λ u v eu ev. sym (again k (i - k) u b (omega arith) (omega arith)) ∙ e (i - k) v (omega arith) ev)))
+        (inr (λ e. suffix-stops x j inside (omega (arith, a .low, a .high)) (λ u v eu ev. sym (again k (i - k) u b (omega arith) (omega arith)) ∙ e (i - k) v (omega arith) ev)))
 
     -- and the second
     second : i < g1 + suffixAt x j → suffixAt x i ≡ i + 1 - g1 + lcsuf x g1 (length x - (i + 1) + g1)

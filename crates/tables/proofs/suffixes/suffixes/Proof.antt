@@ -192,7 +192,7 @@ returns c =
     let v = c .before .loop in
     let z : v .i ≡ 0 = omega arith in
     let all = going-all (firsts (a .room .now)) (m - 1) m (rw (z, firsts-set (a .room .now) (m - 1) m) at (v .inv .1)) (omega arith) in
-    (record { written = all .0; others = v .inv .2 ∙ seconds-kept (a .room .now) (m - 1) m }, all .1)
+    (record { written = all .0; others = v .inv .2 ∙ seconds-kept (a .room .now) (m - 1) m }, (all .1, going-within (v .inv .1) .2))
 
 pub suffixes-spec : {M : Type 1} → statement M
 suffixes-spec =
