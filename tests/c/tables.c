@@ -133,6 +133,28 @@ static void equal_bytes_of_every_length(void)
     }
 }
 
+/* Every word of two letters: each entry found by comparing from both ends downward. */
+static void suffix_of_every_short_word(void)
+{
+    for (size_t m = 1; m <= 10; m++)
+        for (unsigned word = 0; word < 1u << m; word++) {
+            uint8_t x[10];
+            uint32_t table[10];
+            for (size_t i = 0; i < m; i++)
+                x[i] = word >> i & 1 ? 'a' : 'b';
+            for (size_t i = 0; i < m; i++) {
+                uint32_t k = 0;
+                while (k <= i && x[i - k] == x[m - 1 - k])
+                    k++;
+                table[i] = k;
+            }
+            uint32_t *lent = room(m + 1);
+            EXPECT(nahui_suffix(bytes(x, m), m, lent, m + 1) == 0);
+            EXPECT(holds_just(lent, m + 1, table, m));
+            give_arrays_back();
+        }
+}
+
 /* Stretches of a word with many repetitions: the pairs, taken apart, are the two tables. */
 static void pairs_beside_the_tables(void)
 {
@@ -163,6 +185,7 @@ int main(void)
     run("short rooms are refused 4", short_rooms);
     run("rooms of fewer than 2m numbers for the pairs are refused 4", short_rooms_for_pairs);
     run("equal bytes of every length up to 130", equal_bytes_of_every_length);
+    run("suffix tables of all words of two letters up to 10 bytes", suffix_of_every_short_word);
     run("pairs taken apart are the two tables", pairs_beside_the_tables);
     return status();
 }
