@@ -9,7 +9,7 @@ ghost use mathlib.Core.Path.{_≡_};
 ghost use mathlib.Core.Bool.{cond};
 ghost use Prim.Native.Nat.{_*_, _<_, _≤_};
 ghost use lib.ListN.{length};
-ghost use Rattle.basics.specs.Lists.{at, table};
+ghost use Rattle.basics.specs.Lists.{table};
 ghost use Rattle.basics.specs.Rooms.{front, Begins};
 ghost use Rattle.tables.specs.Suffix.{suffixTable};
 ghost use Rattle.tables.specs.Shift.{shiftTable};

@@ -9,15 +9,13 @@ use native.Mathlib.Nat.{eq-or-lt-of-le}
 use native.Mathlib.Numerals.{add-one}
 use native.Mathlib.Omega.{arith}
 use borrow.Author.Tests.{eq-eqb, ne-eqb, eqb-true, le-leb, lt-leb}
-use lib.Dec.{eqb, leb}
-use lib.ListN.{length, take, set, take-append-drop}
-use lib.Seq.{getD-take, length-take-le}
+use lib.Dec.{eqb}
+use lib.ListN.{length, set}
 use Rattle.basics.specs.Search.{least}
-use Rattle.basics.specs.Lists.{at, table}
+use Rattle.basics.specs.Lists.{at}
 use Rattle.basics.specs.Rooms.{front}
 use Rattle.basics.specs.laws.Tests.{same-test, le-or-lt}
 use Rattle.basics.specs.laws.Search.{least-is}
-use Rattle.basics.specs.laws.Lists.{length-table, table-is}
 use Rattle.basics.specs.laws.Rooms.{Filled, filled-none, filled-ext, filled-at, filled-set, filled-then, filled-all, downTo, down-on, down-none}
 use Rattle.tables.specs.Suffix.{suffixAt}
 use Rattle.tables.specs.Shift.{fits, shiftAt, shiftTable}

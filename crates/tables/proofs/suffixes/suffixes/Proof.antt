@@ -2,11 +2,10 @@
 -- comparisons made and those still to come are all of them (`Going`).
 -- Assumes nothing.
 use Prim.Native.Nat.{ℕ, _+_, _-_, _*_, _≤_}
-use mathlib.Core.Path.{_≡_, refl, sym, ap, _∙_}
+use mathlib.Core.Path.{_≡_, refl, sym, _∙_}
 use mathlib.Core.Logic.{⊎-elim}
 use mathlib.Core.Bool.{false}
 use native.Mathlib.Omega.{arith}
-use borrow.Author.Tests.{not-false}
 use lib.ListN.{length, set, length-set}
 use Rattle.basics.specs.Lists.{at}
 use Rattle.tables.specs.Both.{firsts, seconds}
