@@ -8,7 +8,7 @@
 //
 // What ends at i within v ends at j as well, and entry j is set already: lemma 4.1 (specs/laws/Lemma41.antt).
 //
-// The numbers behind the lines are the figure's. Two departures from it:
+// The numbers behind the lines are the figure's; suf[i] is room[2 * i], the first of pair i. Two departures from the page:
 // 1. f starts at m - 1. On the page it has no value before line 7; line 4 reads it only where i > g, and so never before.
 // 2. g falls to -1, so g + 1 is kept, as `g1`: i > g is g1 <= i, i - g is i + 1 - g1, and f - g is f + 1 - g1.
 //

@@ -27,7 +27,7 @@ pub falls-le : (x : List ℕ) (f g1 : ℕ) → falls x f g1 ≤ g1
 unfolding falls
 falls-le x f g1 = lcsuf-le x g1 (facing x f g1)
 
--- LINES 8 AND 9. From g1 down to low every pair is equal; both are one more than g, before and after
+-- LINES 8 AND 9. Every pair is equal from g1 down to low, which is one more than g as it has fallen
 module _ (x : List ℕ) (f g1 : ℕ) where
   abbrev pub Fell : ℕ → Type 0
   Fell low = (low ≤ g1) × ((t : ℕ) → t < g1 - low → Level x g1 x (facing x f g1) t)
@@ -76,6 +76,11 @@ ready-high : (x : List ℕ) (n f g1 : ℕ) → Ready x n f g1 → (n ≤ f) × (
 ready-high x n f g1 (inl e) = (omega arith, omega arith)
 ready-high x n f g1 (inr a) = (a .low, omega (arith, a .high))
 
+-- no entry from i on reaches lower than g
+least-here : (x : List ℕ) (i g1 : ℕ) → suffixAt x i + g1 ≤ i + 1 → ((j : ℕ) → i < j → j + 1 < length x → suffixAt x j + g1 ≤ j + 1)
+    → (j : ℕ) → i ≤ j → j + 1 < length x → suffixAt x j + g1 ≤ j + 1
+least-here x i g1 here above j l h = ⊎-elim (λ (e : i ≡ j). rw (← e) here) (λ (u : i < j). above j u h) (eq-or-lt-of-le l)
+
 -- ONE ROUND, for i
 module _ (x : List ℕ) (i f g1 : ℕ) (ready : Ready x (i + 1) f g1) where
   furthest : g1 ≤ i → Furthest x (i + 1) f g1
@@ -112,11 +117,7 @@ module _ (x : List ℕ) (i f g1 : ℕ) (ready : Ready x (i + 1) f g1) where
           low = omega (arith, a .low);
           high = a .high;
           reached = a .reached;
-          least = λ j l h.
-              ⊎-elim
-              (λ (e : i ≡ j). rw (← e) (omega (arith, told-entry, above)))
-              (λ (u : i < j). a .least j (omega arith) h)
-              (eq-or-lt-of-le l);
+          least = least-here x i g1 (omega (arith, told-entry, above)) (λ j u h. a .least j (omega arith) h);
         })
 
   -- line 4 does not hold: g falls from the lesser of g and i
@@ -147,11 +148,8 @@ module _ (x : List ℕ) (i f g1 : ℕ) (ready : Ready x (i + 1) f g1) where
           low = omega arith;
           high = within;
           reached = omega (arith, fallen-entry, falls-le x i from);
-          least = λ j l h.
-              ⊎-elim
-              (λ (q : i ≡ j). rw (← q) (omega (arith, fallen-entry, falls-le x i from)))
-              (λ (u : i < j). ⊎-elim (λ z. absurd (omega (arith, z))) (λ a. omega (arith, a .least j (omega arith) h)) ready)
-              (eq-or-lt-of-le l);
+          least = least-here x i (from - falls x i from) (omega (arith, fallen-entry, falls-le x i from))
+              (λ j u h. ⊎-elim (λ z. absurd (omega (arith, z))) (λ a. omega (arith, a .least j (omega arith) h)) ready);
         })
 
 -- THEOREM 4.3: less than 2m comparisons. Each equal pair lets g fall (the page's proof has j for it), and each round finds one unequal pair at most

@@ -4,12 +4,13 @@
 use Prim.Native.Nat.{ℕ, _+_, _-_, _*_, _≤_}
 use mathlib.Core.Path.{_≡_, refl, sym, _∙_}
 use mathlib.Core.Logic.{⊎-elim}
-use mathlib.Core.Bool.{false}
+use mathlib.Core.Bool.{Bool, false}
 use native.Mathlib.Omega.{arith}
+use lib.Dec.{ltb}
 use lib.ListN.{length, set, length-set}
 use Rattle.basics.specs.Lists.{at}
 use Rattle.tables.specs.Both.{firsts, seconds}
-use Rattle.tables.specs.Comparisons.{told}
+use Rattle.tables.specs.Comparisons.{facing, told}
 use Rattle.tables.specs.laws.Both.{at-firsts, half-reaches, firsts-set, seconds-kept}
 use Rattle.tables.specs.laws.Figure9.{Going, going-none, going-within, going-entry, going-told, going-fallen, going-all, told-is, told-not}
 use Rattle.tables.proofs.suffixes.suffixes.Statement.{statement}
@@ -65,6 +66,30 @@ room-length c =
     let a = c .before .before .before .before .args in
     c .before .loop .inv .3 ∙ length-set (a .room .now) (2 * (length (a .x .now) - 1)) (length (a .x .now))
 
+-- line 4, with the entry as it is read
+told-by : (c : tie.In-loop Inv-loop μ-loop) {r : ℕ} {b : Bool}
+    → let x = c .before .before .before .before .args .x .now in
+    let l = c .before .loop in
+    l .g1 ≤ l .i - 1 → r ≡ at (l .room) (2 * facing x (l .f) (l .i - 1)) → ltb r (l .i - 1 + 1 - l .g1) ≡ b → told x (l .i - 1) (l .f) (l .g1) ≡ b
+told-by c above e t =
+    let x = c .before .before .before .before .args .x .now in
+    let l = c .before .loop in
+    told-is x (l .i - 1) (l .f) (l .g1) (turn c .ready) above (going-entry (turn c) above (e ∙ sym (at-firsts (l .room) (facing x (l .f) (l .i - 1))))) t
+
+-- entry i is written: what the laws say of the firsts
+written : (c : tie.In-loop Inv-loop μ-loop) {f g1 k : ℕ} (v : ℕ)
+    → let a = c .before .before .before .before .args in
+    let l = c .before .loop in
+    let m = length (a .x .now) in
+    let d₀ = set (a .room .now) (2 * (m - 1)) m in
+    let d = set (l .room) (2 * (l .i - 1)) v in
+    Going (a .x .now) (firsts d₀) (l .i - 1) f g1 k (set (firsts (l .room)) (l .i - 1) v)
+    → (l .i - 1 ≤ m - 1) × Going (a .x .now) (firsts d₀) (l .i - 1) f g1 k (firsts d) × (seconds d ≡ seconds d₀) × (length d ≡ length d₀)
+written c v g =
+    let l = c .before .loop in
+    let i : ℕ = l .i - 1 in
+    (omega arith, rw (firsts-set (l .room) i v) g, seconds-kept (l .room) i v ∙ l .inv .2, length-set (l .room) (2 * i) v ∙ l .inv .3)
+
 add-suffix : tie.Need-add-suffix Inv-loop μ-loop
 add-suffix c = omega arith
 
@@ -116,15 +141,10 @@ loop-again c =
     let l = c .before .before .before .before .before in
     let x = l .before .before .before .before .args .x .now in
     let v = l .before .loop in
-    let i : ℕ = v .i - 1 in
-    let j : ℕ = i + (length x - 1) - v .f in
+    let j : ℕ = facing x (v .f) (v .i - 1) in
     let above = c .before .before .before .before .if1 .taken in
-    let t = told-is x i (v .f) (v .g1) (turn l .ready) above (going-entry (turn l) above (c .before .before .suffix .ensures ∙ sym (at-firsts (v .room) j))) (c .before .if2 .taken) in (
-      omega arith,
-      rw (firsts-set (v .room) i (at (v .room) (2 * j))) (going-told (turn l) t (going-entry (turn l) above (sym (at-firsts (v .room) j)))),
-      seconds-kept (v .room) i (at (v .room) (2 * j)) ∙ v .inv .2,
-      length-set (v .room) (2 * i) (at (v .room) (2 * j)) ∙ v .inv .3,
-    )
+    written l (at (v .room) (2 * j))
+    (going-told (turn l) (told-by l above (c .before .before .suffix .ensures) (c .before .if2 .taken)) (going-entry (turn l) above (sym (at-firsts (v .room) j))))
 
 add-smaller : tie.Need-add-smaller Inv-loop μ-loop
 add-smaller c = omega arith
@@ -161,23 +181,16 @@ not-told c =
     let l = c .before in
     let x = l .before .before .before .before .args .x .now in
     let v = l .before .loop in
-    let i : ℕ = v .i - 1 in
     ⊎-elim
-    (λ w. told-is x i (v .f) (v .g1) (turn l .ready) (w .0 .taken) (going-entry (turn l) (w .0 .taken) (w .2 .ensures ∙ sym (at-firsts (v .room) (i + (length x - 1) - v .f)))) (w .3 .left))
-    (λ w. told-not x i (v .f) (v .g1) (turn l .ready) (w .left))
+    (λ w. told-by l (w .0 .taken) (w .2 .ensures) (w .3 .left))
+    (λ w. told-not x (v .i - 1) (v .f) (v .g1) (turn l .ready) (w .left))
     (c .if1 .came)
 
 loop-again-2 : tie.Need-loop-again-2 Inv-loop μ-loop
 loop-again-2 c =
     let l = c .before .before .before in
-    let v = l .before .loop in
-    let i : ℕ = v .i - 1 in
-    let k : ℕ = i + 1 - c .fall .result .g1 in (
-      omega arith,
-      rw (firsts-set (v .room) i k) (going-fallen (turn l) (not-told (c .before .before)) (c .before .smaller .ensures) (c .fall .ensures .0) (c .fall .ensures .1) refl),
-      seconds-kept (v .room) i k ∙ v .inv .2,
-      length-set (v .room) (2 * i) k ∙ v .inv .3,
-    )
+    written l (l .before .loop .i - 1 + 1 - c .fall .result .g1)
+    (going-fallen (turn l) (not-told (c .before .before)) (c .before .smaller .ensures) (c .fall .ensures .0) (c .fall .ensures .1) refl)
 
 same-length : tie.Need-same-length Inv-loop μ-loop
 same-length c =
