@@ -23,6 +23,7 @@ use Rattle.tables.specs.Comparisons.{lcsuf, facing, falls, compared, tol
 use Rattle.tables.specs.laws.Suffix.{suffix-last}
 use Rattle.tables.specs.laws.Lemma41.{lcsuf-le, lcsuf-is, suffix-beyond, Furthest, lemma-4-1}
 
+-- g falls to −1 at most
 pub falls-le : (x : List ℕ) (f g1 : ℕ) → falls x f g1 ≤ g1
 unfolding falls
 falls-le x f g1 = lcsuf-le x g1 (facing x f g1)
@@ -68,6 +69,16 @@ module _ (x : List ℕ) (f g1 : ℕ) where
     unfolding compared
     fell-ends a = let e = fell-is 0 a (inl refl) in (omega (arith, e), omega (arith, e))
 
+-- LINE 4, as it is tested
+module _ (x : List ℕ) (i f g1 : ℕ) where
+  pub told-is : g1 ≤ i → {k : ℕ} {b : Bool} → k ≡ suffixAt x (facing x f i) → ltb k (i + 1 - g1) ≡ b → told x i f g1 ≡ b
+  unfolding told
+  told-is l e t = rw (le-leb g1 i l, ← e) t
+
+  pub told-not : i < g1 → told x i f g1 ≡ false
+  unfolding told
+  told-not l = rw (lt-leb g1 i l)
+
 -- BEFORE THE FIRST ROUND no j lies between i and m − 1: g is m − 1, and f has no value on the page
 abbrev pub Ready : List ℕ → ℕ → ℕ → ℕ → Type 0
 Ready x n f g1 = ((n + 1 ≡ length x) × (f ≡ n) × (g1 ≡ length x)) ⊎ Furthest x n f g1
@@ -88,15 +99,6 @@ module _ (x : List ℕ) (i f g1 : ℕ) (ready : Ready x (i + 1) f g1) where
 
   within : i + 1 < length x
   within = ⊎-elim (λ e. omega (arith, e)) (λ a. omega (arith, a .low, a .high)) ready
-
-  -- line 4, as it is tested
-  pub told-is : g1 ≤ i → {k : ℕ} {b : Bool} → k ≡ suffixAt x (facing x f i) → ltb k (i + 1 - g1) ≡ b → told x i f g1 ≡ b
-  unfolding told
-  told-is l e t = rw (le-leb g1 i l, ← e) t
-
-  pub told-not : i < g1 → told x i f g1 ≡ false
-  unfolding told
-  told-not l = rw (lt-leb g1 i l)
 
   -- line 4 holds
   module _ (t : told x i f g1 ≡ true) where

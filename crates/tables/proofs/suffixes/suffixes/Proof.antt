@@ -74,7 +74,7 @@ told-by : (c : tie.In-loop Inv-loop μ-loop) {r : ℕ} {b : Bool}
 told-by c above e t =
     let x = c .before .before .before .before .args .x .now in
     let l = c .before .loop in
-    told-is x (l .i - 1) (l .f) (l .g1) (turn c .ready) above (going-entry (turn c) above (e ∙ sym (at-firsts (l .room) (facing x (l .f) (l .i - 1))))) t
+    told-is x (l .i - 1) (l .f) (l .g1) above (going-entry (turn c) above (e ∙ sym (at-firsts (l .room) (facing x (l .f) (l .i - 1))))) t
 
 -- entry i is written: what the laws say of the firsts
 written : (c : tie.In-loop Inv-loop μ-loop) {f g1 k : ℕ} (v : ℕ)
@@ -183,7 +183,7 @@ not-told c =
     let v = l .before .loop in
     ⊎-elim
     (λ w. told-by l (w .0 .taken) (w .2 .ensures) (w .3 .left))
-    (λ w. told-not x (v .i - 1) (v .f) (v .g1) (turn l .ready) (w .left))
+    (λ w. told-not x (v .i - 1) (v .f) (v .g1) (w .left))
     (c .if1 .came)
 
 loop-again-2 : tie.Need-loop-again-2 Inv-loop μ-loop
