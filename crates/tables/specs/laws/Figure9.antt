@@ -88,9 +88,9 @@ ready-high x n f g1 (inl e) = (omega arith, omega arith)
 ready-high x n f g1 (inr a) = (a .low, omega (arith, a .high))
 
 -- no entry from i on reaches lower than g
-least-here : (x : List ℕ) (i g1 : ℕ) → suffixAt x i + g1 ≤ i + 1 → ((j : ℕ) → i < j → j + 1 < length x → suffixAt x j + g1 ≤ j + 1)
+none-lower : (x : List ℕ) (i g1 : ℕ) → suffixAt x i + g1 ≤ i + 1 → ((j : ℕ) → i < j → j + 1 < length x → suffixAt x j + g1 ≤ j + 1)
     → (j : ℕ) → i ≤ j → j + 1 < length x → suffixAt x j + g1 ≤ j + 1
-least-here x i g1 here above j l h = ⊎-elim (λ (e : i ≡ j). rw (← e) here) (λ (u : i < j). above j u h) (eq-or-lt-of-le l)
+none-lower x i g1 here above j l h = ⊎-elim (λ (e : i ≡ j). rw (← e) here) (λ (u : i < j). above j u h) (eq-or-lt-of-le l)
 
 -- ONE ROUND, for i
 module _ (x : List ℕ) (i f g1 : ℕ) (ready : Ready x (i + 1) f g1) where
@@ -119,7 +119,7 @@ module _ (x : List ℕ) (i f g1 : ℕ) (ready : Ready x (i + 1) f g1) where
           low = omega (arith, a .low);
           high = a .high;
           reached = a .reached;
-          least = least-here x i g1 (omega (arith, told-entry, above)) (λ j u h. a .least j (omega arith) h);
+          least = none-lower x i g1 (omega (arith, told-entry, above)) (λ j u h. a .least j (omega arith) h);
         })
 
   -- line 4 does not hold: g falls from the lesser of g and i
@@ -150,7 +150,7 @@ module _ (x : List ℕ) (i f g1 : ℕ) (ready : Ready x (i + 1) f g1) where
           low = omega arith;
           high = within;
           reached = omega (arith, fallen-entry, falls-le x i from);
-          least = least-here x i (from - falls x i from) (omega (arith, fallen-entry, falls-le x i from))
+          least = none-lower x i (from - falls x i from) (omega (arith, fallen-entry, falls-le x i from))
               (λ j u h. ⊎-elim (λ z. absurd (omega (arith, z))) (λ a. omega (arith, a .least j (omega arith) h)) ready);
         })
 

@@ -61,10 +61,10 @@ turn c =
     rw e (c .before .loop .inv .1)
 
 -- the room is as long as it was
-room-length : (c : tie.In-loop Inv-loop μ-loop) → length (c .before .loop .room) ≡ length (c .before .before .before .before .args .room .now)
-room-length c =
-    let a = c .before .before .before .before .args in
-    c .before .loop .inv .3 ∙ length-set (a .room .now) (2 * (length (a .x .now) - 1)) (length (a .x .now))
+as-long : (c : tie.At-loop Inv-loop μ-loop) → length (c .loop .room) ≡ length (c .before .before .before .args .room .now)
+as-long c =
+    let a = c .before .before .before .args in
+    c .loop .inv .3 ∙ length-set (a .room .now) (2 * (length (a .x .now) - 1)) (length (a .x .now))
 
 -- line 4, with the entry as it is read
 told-by : (c : tie.In-loop Inv-loop μ-loop) {r : ℕ} {b : Bool}
@@ -99,7 +99,7 @@ sub-suffix c = omega (arith, going-within (turn (c .before .before)))
 suffix-requires : tie.Need-suffix-requires Inv-loop μ-loop
 suffix-requires c κs =
     let l = c .before .before in
-    (omega (arith, going-within (turn l)), omega (arith, going-within (turn l), room-length l))
+    (omega (arith, going-within (turn l)), omega (arith, going-within (turn l), as-long (l .before)))
 
 add-if2 : tie.Need-add-if2 Inv-loop μ-loop
 add-if2 c = omega arith
@@ -122,7 +122,7 @@ mul-room-4 c = omega arith
 slice-read-room : tie.Need-slice-read-room Inv-loop μ-loop
 slice-read-room c =
     let l = c .before .before .before .before .before in
-    omega (arith, going-within (turn l), room-length l)
+    omega (arith, going-within (turn l), as-long (l .before))
 
 mul-room-5 : tie.Need-mul-room-5 Inv-loop μ-loop
 mul-room-5 c = omega arith
@@ -131,7 +131,7 @@ mul-room-6 : tie.Need-mul-room-6 Inv-loop μ-loop
 mul-room-6 c = omega arith
 
 slice-write-room-2 : tie.Need-slice-write-room-2 Inv-loop μ-loop
-slice-write-room-2 c = omega (arith, room-length (c .before .before .before .before .before))
+slice-write-room-2 c = omega (arith, as-long (c .before .before .before .before .before .before))
 
 loop-less : tie.Need-loop-less Inv-loop μ-loop
 loop-less c = omega arith
@@ -171,7 +171,7 @@ mul-room-8 : tie.Need-mul-room-8 Inv-loop μ-loop
 mul-room-8 c = omega arith
 
 slice-write-room-3 : tie.Need-slice-write-room-3 Inv-loop μ-loop
-slice-write-room-3 c = omega (arith, room-length (c .before .before .before))
+slice-write-room-3 c = omega (arith, as-long (c .before .before .before .before))
 
 loop-less-2 : tie.Need-loop-less-2 Inv-loop μ-loop
 loop-less-2 c = omega arith
@@ -193,9 +193,7 @@ loop-again-2 c =
     (going-fallen (turn l) (not-told (c .before .before)) (c .before .smaller .ensures) (c .fall .ensures .0) (c .fall .ensures .1) refl)
 
 same-length : tie.Need-same-length Inv-loop μ-loop
-same-length c =
-    let a = c .before .before .before .before .args in
-    c .before .loop .inv .3 ∙ length-set (a .room .now) (2 * (length (a .x .now) - 1)) (length (a .x .now))
+same-length c = as-long (c .before)
 
 returns : tie.Need-returns Inv-loop μ-loop
 returns c =
