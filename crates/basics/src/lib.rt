@@ -1,4 +1,6 @@
 // Small functions on numbers and rooms that several layers use.
+#![tactic(auto)]
+
 ghost use Rattle.std.specs.Prelude.{◌≡◌, ◌-◌, min, max, length, replicate};
 ghost use Rattle.basics.specs.Rooms.{front};
 

@@ -11,6 +11,8 @@
 //            the log's file                     module store
 //
 // Nothing is written before everything is read, so a FILE may be LOG itself.
+#![tactic(auto)]
+
 ghost use Rattle.std.specs.Prelude.{◌≡◌, ◌≤◌, length};
 ghost use Rattle.writer.specs.Made.{sum_to};
 ghost use Rattle.bind.specs.Inside.{most, too_many, word_size, line_size, blocks_size};

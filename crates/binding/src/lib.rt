@@ -7,6 +7,8 @@
 // beside                                     the name of a file in the log's folder
 //
 // Each text is put from the front of the buffer on, as far as it reaches, and its whole length is answered.
+#![tactic(auto)]
+
 ghost use Rattle.std.specs.Prelude.{◌≡◌, ◌+◌, ◌≤◌, ◌<◌, length};
 ghost use Rattle.lines.specs.Line.{numbers_line};
 ghost use Rattle.binding.specs.Ids.{limit, id_of};

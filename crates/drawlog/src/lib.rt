@@ -9,6 +9,8 @@
 // Log        the log's sizes, mark, limits and refusal numbers          module layout
 //
 // Every call tests the log. Bytes are read where they lie, never copied.
+#![tactic(auto)]
+
 ghost use Rattle.std.specs.Prelude.{◌≡◌, ◌+◌, ◌≤◌, length};
 ghost use Rattle.drawlog.specs.Promise.{tested_of, seek, found_of, listed_of, Stretch, BlockOf, BlockAt};
 ghost use Rattle.drawlog.specs.laws.Log.{Reaches};

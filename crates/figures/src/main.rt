@@ -11,6 +11,8 @@
 // Each row is put into one page, from a place on, and the place after it is answered, as `lines` has it. Each number that
 // is printed is a call's answer, or says what the call was given: a length, or the draws of a probe. The bound is reckoned
 // from the two lengths.
+#![tactic(auto)]
+
 mod checks; // checks.rt: the overlap check of two replicates
 mod edges; // edges.rt: the edges
 mod pieces; // pieces.rt: what rows are made of

@@ -3,6 +3,8 @@
 // Each call puts its bytes from a place on, as far as the buffer reaches, leaves every other byte as it was, and
 // answers the place after them, also where that lies past the buffer's end. So a text is put by calls one after
 // another, each at the place that the last one answered, and the last answer is the length of the whole text.
+#![tactic(auto)]
+
 ghost use Rattle.std.specs.Prelude.{◌≡◌, [], ◌∷◌, ◌+◌, ◌≤◌, ◌<◌, min, length, drop};
 ghost use Rattle.lines.specs.Digits.{digit_byte, digits};
 ghost use Rattle.lines.specs.Line.{numbers_line};

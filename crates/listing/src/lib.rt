@@ -8,6 +8,8 @@
 // head, pair_line, unprobed_line, total_line, refused_line    one line each
 //
 // Each function puts its text from a place on, as far as the buffer reaches, and answers the place after it.
+#![tactic(auto)]
+
 ghost use Rattle.std.specs.Prelude.{◌≡◌, ◌+◌, ◌*◌, ◌-◌, ◌≤◌, ◌<◌, length};
 ghost use Rattle.lines.specs.Promise.{Laid};
 ghost use Rattle.drawlog.specs.Log.{count};

@@ -1,6 +1,8 @@
 // Prints the overlap listing of the draw log on standard input, with probes of 32 draws.
 //
 // A read error counts as the end of the input. The text is written by one call.
+#![tactic(auto)]
+
 use drawlog::Log;
 use libc::{STDIN_FILENO, STDOUT_FILENO};
 

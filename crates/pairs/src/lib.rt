@@ -11,6 +11,8 @@
 //
 // Work rooms hold anything between two searches; what lies in them beyond what a search of such a probe takes is never
 // touched.
+#![tactic(auto)]
+
 ghost use Rattle.std.specs.Prelude.{◌≡◌, ◌+◌, ◌*◌, ◌-◌, ◌≤◌, ◌<◌, cond, [], ◌∷◌, length};
 ghost use Rattle.drawlog.specs.Log.{most};
 ghost use Rattle.drawlog.specs.Promise.{tested_of};

@@ -23,6 +23,8 @@
 //    entry carries the position for which it was written (`memory`).
 // 5. Above the last position where a length was remembered nothing is looked up (`windows::remembering`).
 // 6. The last byte of a window, of which nothing can be remembered, is compared by itself (`windows::last`).
+#![tactic(auto)]
+
 ghost use Rattle.std.specs.Prelude.{◌≡◌};
 ghost use Rattle.scans.specs.Refusal.{refusal_of};
 ghost use Rattle.scans.specs.Promise.{Plainly, Rememberingly, Aligning};

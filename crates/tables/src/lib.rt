@@ -11,6 +11,8 @@
 // is what a scan takes (`both`). `suffix` and `shift` take the pairs apart.
 //
 // Each call refuses what it cannot serve, by a number of document 01's table, and leaves every room as it was.
+#![tactic(auto)]
+
 ghost use Rattle.std.specs.Prelude.{◌≡◌, ◌*◌, ◌≤◌, length};
 ghost use Rattle.basics.specs.Rooms.{front};
 ghost use Rattle.tables.specs.Suffix.{suffix_table};

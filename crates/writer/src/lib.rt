@@ -5,6 +5,8 @@
 //            the log's parts, one after another        module put
 //
 // Sizes, mark and limits are those of `drawlog::Log`, by which logs are read.
+#![tactic(auto)]
+
 ghost use Rattle.writer.specs.Promise.{Writing};
 
 mod put; // put.rt: the parts of a log
