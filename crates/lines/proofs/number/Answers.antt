@@ -7,6 +7,6 @@ use Rattle.lines.proofs.number.Goals as goal
 pub returns : goal.returns
 returns c =
     let s = c.spell-first in
-    let text = s.new.0 in
+    let text = s.new.text in
     let whole = take_all (most_digits - s.result) (drop s.result text) (simp length-drop (omega arith)) in
     rw (whole, s.ensures.1) at c.word.ensures
