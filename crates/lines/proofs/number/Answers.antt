@@ -1,7 +1,7 @@
 -- `lines::number` meets its contract: the digits are spelt at the end of a local array, and put from there.
 -- Assumes nothing.
 use Rattle.std.proofs.Common.{◌-◌, arith, drop, length-drop, take_all}
-use Rattle.lines.specs.laws.Digits.{most_digits}
+use Rattle.lines.specs.Digits.{most_digits}
 use Rattle.lines.proofs.number.Goals as goal
 
 pub returns : goal.returns
