@@ -29,3 +29,7 @@ value_on a (b ∷ w) = value_on (a * 10 + (b - zero_byte)) w
 -- the number that the digits w name
 unfoldable pub value : List ℕ → ℕ
 value w = value_on 0 w
+
+-- how many digits a number of 64 bits has at most
+abbrev pub most_digits : ℕ
+most_digits = 20

@@ -7,7 +7,5 @@ pub mod Digits
 pub mod Line
 -- what each public call promises, and that it determines the outcome
 pub mod Promise
--- digits of some numbers, computed
-pub mod Figures
 -- the laws, for the proofs of this crate and of those above it
 pub mod laws

@@ -6,11 +6,10 @@
 #![tactic(auto)]
 
 ghost use Rattle.std.specs.Prelude.{◌≡◌, [], ◌∷◌, ◌+◌, ◌≤◌, ◌<◌, min, length, drop};
-ghost use Rattle.lines.specs.Digits.{digit_byte, digits};
+ghost use Rattle.lines.specs.Digits.{digit_byte, digits, most_digits};
 ghost use Rattle.lines.specs.Line.{numbers_line};
 ghost use Rattle.lines.specs.Put.{last_place};
 ghost use Rattle.lines.specs.Promise.{Laid};
-ghost use Rattle.lines.specs.laws.Digits.{most_digits};
 
 // The greatest place that a usize can name, 2^64 - 1: no buffer reaches it, and no answer goes past it.
 const LAST_PLACE: usize = 18446744073709551615;

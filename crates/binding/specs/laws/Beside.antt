@@ -4,7 +4,7 @@ use Rattle.std.proofs.Common.{sym, ap, ◌∙◌, add-one, arith, eq-eqb, ne_eqb
 use Rattle.basics.specs.Lists.{at}
 use Rattle.basics.specs.Search.{greatest}
 use Rattle.basics.specs.laws.Search.{greatest-none, greatest_new, greatest_old}
-use Rattle.lines.specs.laws.Digits.{digits_fit}
+use Rattle.lines.proofs.Digits.{digits_fit}
 use Rattle.lines.specs.laws.Put.{after_short}
 use Rattle.binding.specs.Beside.{slash, slash_before, folder_end, beside_name}
 use Rattle.binding.specs.Promise.{longest, Said}

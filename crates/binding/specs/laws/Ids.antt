@@ -4,8 +4,8 @@ use Rattle.std.proofs.Common.{sym, ap, ◌∙◌, ⊎_elim, add-one, arith, lt-l
 use Rattle.std.proofs.lemmas.Bool.{lt-leb}
 use Rattle.basics.specs.Lists.{at}
 use Rattle.basics.specs.laws.Tests.{bool_case, le_or_lt}
-use Rattle.lines.specs.Digits.{zero_byte, digit_byte, value_on, value}
-use Rattle.lines.specs.laws.Digits.{value_none, value-more, value_is, value_grows}
+use Rattle.lines.specs.Digits.{zero_byte, digit_byte, value_on}
+use Rattle.lines.proofs.Digits.{value_none, value-more, value_is, value_grows}
 use Rattle.binding.specs.declared.Id.{Id}
 use Rattle.binding.specs.Ids.{limit, is_digit, all_digits, is_id, id_of}
 use Rattle.binding.specs.Inside.{none, id_on, next}

@@ -2,7 +2,7 @@
 use Rattle.std.specs.Prelude.{◌≡◌, List, ℕ, ◌+◌, ◌≤◌, ◌<◌, length}
 use Rattle.std.proofs.Common.{arith, length-append}
 use Rattle.lines.specs.Line.{numbers_line}
-use Rattle.lines.specs.laws.Line.{numbers-length}
+use Rattle.lines.proofs.Line.{numbers-length}
 use Rattle.lines.specs.laws.Put.{after_short, after_some}
 use Rattle.binding.specs.Said.{name_line, usage_line}
 use Rattle.binding.specs.Promise.{longest, Said}

@@ -1,13 +1,14 @@
 -- `lines::byte` meets its contract: a store out of range changes nothing.
 -- Assumes nothing.
-use Rattle.std.proofs.Common.{sym, ap, ◌∙◌, ⊎_elim, length, length-set}
-use lib.Seq.{set_out}
+use Rattle.std.proofs.Common.{sym, ap, ◌∙◌, length, length-set}
+use Rattle.std.proofs.Math.Seq.{set_out}
 use Rattle.lines.specs.Put.{put, after}
 use Rattle.lines.proofs.byte.Goals as goal
+use Rattle.lines.proofs.byte.Goals.{then-at-out, else-at-out}
 
 pub shape_of-out : goal.shape_of-out
 shape_of-out c =
-    ⊎_elim (λ w. ap length w.1 ∙ simp length-set) (λ w. ap length w.1) c.if-at-out.branch
+    elim c.if-at-out.branch [ then-at-out w ↦ ap length w.out-is ∙ simp length-set | else-at-out w ↦ ap length w.out-is ]
 
 pub returns : goal.returns
 unfolding put after
@@ -15,5 +16,5 @@ returns c =
     let a = c.args in
     record {
       answer = c.next.ensures;
-      buffer = ⊎_elim (λ w. w.1) (λ w. w.1 ∙ sym (set_out a.out.now a.at a.b w.0.left)) c.if-at-out.branch;
+      buffer = elim c.if-at-out.branch [ then-at-out w ↦ w.out-is | else-at-out w ↦ w.out-is ∙ sym (set_out a.out.now a.at a.b w.if-at-out.false) ];
     }

@@ -1,5 +1,5 @@
 use Rattle.std.proofs.Common.{arith, sym, ◌∙◌, length-set}
-use Rattle.lines.specs.laws.Spelling.{spelt_none, spelt_room, spelt_more, spelt_all}
+use Rattle.lines.proofs.Spelling.{spelt_none, spelt_room, spelt_more, spelt_all}
 use Rattle.lines.proofs.spell.Goals as goal
 
 pub loop-rest-init : goal.loop-rest-init

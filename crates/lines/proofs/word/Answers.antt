@@ -1,4 +1,4 @@
-use Rattle.std.proofs.Common.{◌<◌, ◌-◌, add-one, arith, length, take, take-suc, take_all}
+use Rattle.std.proofs.Common.{◌<◌, add-one, arith, length, take-suc, take_all}
 use Rattle.lines.specs.laws.Promise.{laid_none, laid_then, laid_length}
 use Rattle.lines.proofs.word.Goals as goal
 

@@ -7,8 +7,8 @@ use Rattle.std.proofs.Math.Numerals.{add-one}
 use Rattle.std.proofs.Math.ListN.{length, length-append}
 use Rattle.basics.specs.laws.Lists.{Bytes}
 use Rattle.basics.specs.laws.Tests.{bool_case, equal_or_not}
-use Rattle.lines.specs.laws.Digits.{digits_word}
-use Rattle.lines.specs.laws.Line.{numbers-length}
+use Rattle.lines.proofs.Digits.{digits_word}
+use Rattle.lines.proofs.Line.{numbers-length}
 use Rattle.lines.specs.laws.Put.{after_short}
 use Rattle.drawlog.specs.declared.Tested.{Tested}
 use Rattle.drawlog.specs.Log.{count, id_at}

@@ -5,7 +5,7 @@ use Rattle.std.proofs.Math.ListN.{get_or-append}
 use Rattle.std.proofs.lemmas.List.{get_or_at}
 use Rattle.basics.specs.Lists.{at}
 use Rattle.basics.specs.laws.Tests.{le_or_lt}
-use Rattle.lines.specs.Digits.{zero_byte, digit_byte, followed, digits_in, digits, value_on, value}
+use Rattle.lines.specs.Digits.{zero_byte, digit_byte, followed, digits_in, digits, value_on, value, most_digits}
 
 -- more steps than n change nothing
 digits_steps : (f g n : ℕ) → n < f → n < g → digits_in f n ≡ digits_in g n
@@ -94,10 +94,6 @@ digits-most (suc k) n h =
     (λ (s : 10 ≤ n). omega (arith, length_more n s, digits-most k (n / 10) (omega (arith, pow-suc 10 (suc k)))))
     (λ (s : n < 10). rw (digits_one n s) (omega arith))
     (le_or_lt 10 n)
-
--- a number of 64 bits has at most 20
-abbrev pub most_digits : ℕ
-most_digits = 20
 
 pub digits_fit : (n : ℕ) → n < 2 ^ 64 → length (digits n) ≤ most_digits
 digits_fit n h = digits-most 19 n (omega arith)

@@ -2,11 +2,11 @@
 --
 --     text  . . . . 0 3 2        4032: three digits are written, 4 is left
 --                 |              the next digit's place
-use Rattle.std.specs.Prelude.{◌≡◌, List, [], ◌∷◌, ◌++◌, ℕ, suc, ◌+◌, ◌-◌, ◌/◌, ◌%◌, ◌^◌, ◌≤◌, ◌<◌, length, take, drop, set}
+use Rattle.std.specs.Prelude.{◌≡◌, List, [], ◌∷◌, ◌++◌, ℕ, suc, ◌-◌, ◌/◌, ◌%◌, ◌^◌, ◌≤◌, ◌<◌, length, take, drop, set}
 use Rattle.std.proofs.Common.{sym, ap, ◌∙◌, append_assoc, append-nil, arith, length-append, length-drop, length-set, drop_of_length-le, length-take-le, drop_at}
 use Rattle.std.proofs.lemmas.List.{set_split}
-use Rattle.lines.specs.Digits.{digit_byte, digits}
-use Rattle.lines.specs.laws.Digits.{most_digits, digits_one, digits_more, digits_some, digits_fit, length_more}
+use Rattle.lines.specs.Digits.{digit_byte, digits, most_digits}
+use Rattle.lines.proofs.Digits.{digits_one, digits_more, digits_some, digits_fit, length_more}
 
 -- the digits of `rest` are still to be written, the next at `place`; with those behind it they are the digits of n
 pub record Spelt (n place rest : ℕ) (text : List ℕ) : Type 0 where

@@ -2,7 +2,7 @@
 use Rattle.std.specs.Prelude.{List, ℕ, ◌+◌, ◌≤◌, ◌<◌, length}
 use Rattle.std.proofs.Common.{arith, length-append}
 use Rattle.lines.specs.Line.{numbers_line}
-use Rattle.lines.specs.laws.Digits.{digits_word}
+use Rattle.lines.proofs.Digits.{digits_word}
 
 pub numbers-length : (w : List ℕ) (m n : ℕ) → m < 4294967296 → n < 4294967296 → length (numbers_line w m n) ≤ 22 + length w
 unfolding numbers_line
