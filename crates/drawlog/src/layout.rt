@@ -8,7 +8,7 @@ ghost use Rattle.drawlog.specs.laws.Log.{Reaches};
 use basics::wide;
 
 // What a log's trailer says.
-#[derive(Drop)]
+#[derive(Clone, Copy)]
 pub struct Log {
     pub(crate) directory: u32,
     pub(crate) count: u32,

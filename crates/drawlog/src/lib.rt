@@ -23,14 +23,14 @@ use basics::wide;
 pub use layout::Log;
 
 // A refusal and its entry number; 0 and 0 where there is none.
-#[derive(Drop)]
+#[derive(Clone, Copy)]
 pub struct Cause {
     pub refusal: u32,
     pub entry: u32,
 }
 
 // The log test's answer. On refusal the count is 0.
-#[derive(Drop)]
+#[derive(Clone, Copy)]
 pub struct Tested {
     pub refusal: u32,
     pub entry: u32,
@@ -38,7 +38,7 @@ pub struct Tested {
 }
 
 // The lookup's answer. On refusal start and length are 0.
-#[derive(Drop)]
+#[derive(Clone, Copy)]
 pub struct Found {
     pub refusal: u32,
     pub entry: u32,
@@ -47,7 +47,7 @@ pub struct Found {
 }
 
 // Entry k. Where there is none, on refusal or past the count, id, start and length are 0.
-#[derive(Drop)]
+#[derive(Clone, Copy)]
 pub struct Listed {
     pub refusal: u32,
     pub entry: u32,

@@ -7,7 +7,7 @@ use crate::{Cause, block_at, entry, test};
 use basics::{larger, smaller, wide};
 
 // The log, the number of the next entry, the refusal and the entry at fault. No other crate can make one but by `open`.
-#[derive(Drop)]
+#[derive(Clone, Copy)]
 pub struct Reader<'a> {
     log: &'a [u8],
     next: u32,

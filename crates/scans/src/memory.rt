@@ -8,7 +8,7 @@ ghost use Rattle.scans.specs.inside.Slots.{recalled, Stands};
 ghost use Rattle.scans.specs.inside.Window.{Kept};
 
 // A text position and its slot in the memory room.
-#[derive(Drop)]
+#[derive(Clone, Copy)]
 pub(crate) struct Place {
     pub at: usize,
     pub slot: usize,

@@ -20,7 +20,7 @@ pub const SHORT_ROOM: u32 = 23;
 pub const COUNTS_DIFFER: u32 = 31;
 
 // The writer's answer: the log's length, which is 0 beside a refusal.
-#[derive(Drop)]
+#[derive(Clone, Copy)]
 pub struct Written {
     pub refusal: u32,
     pub entry: u32,

@@ -30,12 +30,12 @@ carries_cause l n = refl
 pub reads_block : (l : Bor (List ℕ)) (k : ℕ) (b : Bor (List ℕ)) → Handed (skipped (opened l) k) b → BlockAt l k b
 reads_block l k b h = rw same at h
   where
-    same : listed_of (now l) (ahead (now l) 0 k) ≡ listed_of (now l) k
+    same : listed_of l.now (ahead l.now 0 k) ≡ listed_of l.now k
     same =
         ⊎_elim
-        (λ (u : (tested_of (now l)).count ≤ k). listed_none (now l) (ahead (now l) 0 k) (omega arith) ∙ sym (listed_none (now l) k u))
-        (λ (u : k < (tested_of (now l)).count). ap (listed_of (now l)) (omega arith))
-        (le_or_lt (tested_of (now l)).count k)
+        (λ (u : (tested_of l.now).count ≤ k). listed_none l.now (ahead l.now 0 k) (omega arith) ∙ sym (listed_none l.now k u))
+        (λ (u : k < (tested_of l.now).count). ap (listed_of l.now) (omega arith))
+        (le_or_lt (tested_of l.now).count k)
 
 -- READING ALL
 none_left : (n : ℕ) (r : Reader) → left r ≡ false → handed_out n r ≡ []

@@ -1,5 +1,5 @@
 -- Each window tells the true number of trailing bytes that are equal; and the closest window, one window after another. Assumes nothing.
-use Rattle.std.specs.Prelude.{◌≡◌, ◌⊎◌, cond, List, [], ◌∷◌, ◌++◌, map, eqb, ltb}
+use Rattle.std.specs.Prelude.{◌≡◌, cond, List, [], ◌∷◌, ◌++◌, map, eqb, ltb}
 use Rattle.std.proofs.Math.Path.{refl}
 use Rattle.std.proofs.Common.{sym, ap, ◌∙◌, ⊎_elim, eq-or-lt_of_le, arith, eq-eqb, ne_eqb, le-ltb}
 use Rattle.std.proofs.Math.Logic.{inl, inr}
@@ -163,7 +163,7 @@ unfolding closest first_telling
 at_more [] w z l = let e : w.equal ≡ 0 = omega arith in rw (e, z)
 at_more (v ∷ ws) w z l =
     let e : closest ((v ∷ ws) ++ (w ∷ [])) ≡ closest (v ∷ ws) = omega (arith, closest-more (v ∷ ws) w) in
-    rw e (first_old v ws w (closest (v ∷ ws)) refl)
+    ap (λ (k : ℕ). first_telling k ((v ∷ ws) ++ (w ∷ []))) e ∙ first_old v ws w (closest (v ∷ ws)) refl
 
 -- The first window starts at 0: where it has nothing equal, it is the closest all the same.
 pub closest_then : (ws : List Window) (w : Window) → first_start (ws ++ (w ∷ [])) ≡ 0 → closest_of (ws ++ (w ∷ [])) ≡ closer_by (closest_of ws) w.equal w.start

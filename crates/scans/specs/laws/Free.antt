@@ -5,7 +5,6 @@ use Rattle.std.proofs.Common.{sym, ap, ◌∙◌, add-zero, add-suc, arith, le-l
 use Prim.Native.Nat.{ℕ, zero, suc, ◌+◌, ◌-◌, ◌≤◌, ◌<◌, zero-le}
 use Rattle.std.proofs.Math.Nat.{sub-zero, suc-sub-suc, zero-sub}
 use Rattle.std.proofs.lemmas.Bool.{lt-leb}
-use Rattle.basics.specs.Lists.{at}
 use Rattle.basics.specs.laws.Tests.{leb-case}
 use Rattle.tables.specs.laws.Suffix.{suffix_le}
 use Rattle.scans.specs.Remember.{mem_from}

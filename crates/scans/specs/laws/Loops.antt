@@ -1,7 +1,6 @@
 -- What the two loops keep from window to window. Assumes nothing.
 use Rattle.std.specs.Prelude.{◌≡◌, refl, List, [], ◌++◌, ℕ, zero, suc, ◌+◌, ◌-◌, ◌*◌, ◌≤◌, ◌<◌, length, drop, replicate}
 use Rattle.std.proofs.Common.{ap, ◌∙◌, zero-le, arith, length-append}
-use Rattle.basics.specs.Lists.{at}
 use Rattle.basics.specs.Rooms.{front}
 use Rattle.scans.specs.declared.windows.Seen.{Seen}
 use Rattle.scans.specs.declared.windows.Passed.{Passed}

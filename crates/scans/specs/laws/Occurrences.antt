@@ -1,5 +1,4 @@
 -- The plain scan reports every occurrence, and nothing else. Assumes nothing.
-use denote.Slice.{shr_slice_at}
 use Rattle.std.specs.Prelude.{◌≡◌, refl, ◌⊎◌, leb, take}
 use Rattle.std.proofs.Math.Path.{sym, ap}
 use Rattle.std.proofs.Common.{◌∙◌, inl, inr, add-zero, add-suc, suc-add, eq-or-lt_of_le, le_of_suc-le-suc, arith, leb-true, le-leb, get_or-take, get_or-drop}
@@ -30,22 +29,22 @@ abbrev pub Standing : List ℕ → List ℕ → ℕ → Type 0
 Standing x y j = (t : ℕ) → t < length x → at y (j + t) ≡ at x t
 
 module _ (x y : List ℕ) (j : ℕ) where
-  shr_slice_at : (t : ℕ) → t < length x → at (slice j (j + length x) y) t ≡ at y (j + t)
-  shr_slice_at t l = get_or-drop j (take (j + length x) y) t 0 ∙ get_or-take (j + length x) y (j + t) 0 (omega arith)
+  at-slice : (t : ℕ) → t < length x → at (slice j (j + length x) y) t ≡ at y (j + t)
+  at-slice t l = get_or-drop j (take (j + length x) y) t 0 ∙ get_or-take (j + length x) y (j + t) 0 (omega arith)
 
   pub occurs_true : j + length x ≤ length y → Standing x y j → occurs_at x y j ≡ true
   unfolding occurs_at
   occurs_true l h =
       let q : slice j (j + length x) y ≡ x =
       ext_get_or 0 _ _ (omega (arith, length-slice j (j + length x) y l))
-      (λ t u. let w : t < length x = omega (arith, length-slice j (j + length x) y l) in shr_slice_at t w ∙ h t w) in
+      (λ t u. let w : t < length x = omega (arith, length-slice j (j + length x) y l) in at-slice t w ∙ h t w) in
       rw (le-leb (j + length x) (length y) l, q) (same_refl x)
 
   pub occurs_told : occurs_at x y j ≡ true → (j + length x ≤ length y) × Standing x y j
   unfolding occurs_at
   occurs_told e =
       let b = and_true_both (leb (j + length x) (length y)) (same (slice j (j + length x) y) x) e in
-      (leb-true (j + length x) (length y) b.0, λ t l. sym (shr_slice_at t l) ∙ ap (λ (r : List ℕ). at r t) (same_true _ _ b.1))
+      (leb-true (j + length x) (length y) b.0, λ t l. sym (at-slice t l) ∙ ap (λ (r : List ℕ). at r t) (same_true _ _ b.1))
 
 -- WHAT A WINDOW'S END TELLS, when k bytes were looked at
 abbrev pub Told : List ℕ → List ℕ → ℕ → ℕ → End → Type 0

@@ -9,7 +9,7 @@ use Rattle.scans.specs.declared.windows.Passed.{Passed}
 use Rattle.scans.specs.declared.memory.Place.{Place}
 use Rattle.scans.specs.Trace.{stopped, Pass, more}
 use Rattle.scans.specs.Plain.{plain_pass}
-use Rattle.scans.specs.Remember.{stops, mem_from, mem_pass}
+use Rattle.scans.specs.Remember.{mem_from, mem_pass}
 use Rattle.scans.specs.inside.Slots.{recalled, Stands}
 use Rattle.scans.specs.inside.Window.{left_of, seen_of, passed_of, Ahead, Quiet}
 use Rattle.scans.specs.laws.Slots.{place_at}

@@ -11,13 +11,12 @@ use Rattle.scans.specs.declared.Answer.{Answer}
 use Rattle.scans.specs.declared.Tally.{Tally}
 use Rattle.scans.specs.declared.Searched.{Searched}
 use Rattle.scans.specs.declared.loops.Run.{Run}
-use Rattle.scans.specs.Trace.{Window, comparisons, positions}
+use Rattle.scans.specs.Trace.{Window, positions}
 use Rattle.scans.specs.Plain.{plain}
 use Rattle.scans.specs.Remember.{remembering}
 use Rattle.scans.specs.Occurrences.{occurrences, multiples, first_of}
 use Rattle.scans.specs.Refusal.{refusal_of}
 use Rattle.scans.specs.Promise.{answer_of, tally_of, reported_after}
-use Rattle.scans.specs.inside.Slots.{remembered}
 use Rattle.scans.specs.inside.Window.{Sizes, Moving}
 use Rattle.scans.specs.inside.Hits.{places_of, run_of}
 use Rattle.scans.specs.inside.Search.{refused_by, searched_of, answer_by, tally_by}

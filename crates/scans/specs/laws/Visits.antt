@@ -7,7 +7,6 @@ use mathlib.Core.List.{List, ◌∷◌, map}
 use Prim.Native.Nat.{ℕ, zero, suc, ◌+◌, ◌-◌, ◌≤◌, ◌<◌, zero-le}
 use native.Mathlib.Omega.{arith}
 use Rattle.std.proofs.Math.ListN.{length}
-use Rattle.basics.specs.Lists.{at}
 use Rattle.basics.specs.laws.Tests.{eqb-case, leb-case}
 use Rattle.scans.specs.Trace.{equal_by, Window, comparisons, Visit, visit}
 use Rattle.scans.specs.Move.{move}

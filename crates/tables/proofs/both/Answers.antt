@@ -20,7 +20,7 @@ fill-requires-2 c =
     let a = c.args in
     let z = sized 2 (length a.probe.now) (length a.room.now) c.causes-refusal.ensures c.if-refusal-ne0.false in
     let fill = c.fill in
-    ((z.some, z.short, omega (arith, z.reaches, fill.auto)), begins_first fill.ensures (omega (arith, z.reaches, length-suffix_table a.probe.now)))
+    record { in_bounds = (z.some, z.short, omega (arith, z.reaches, fill.auto)); begins = begins_first fill.ensures (omega (arith, z.reaches, length-suffix_table a.probe.now)) }
 
 pub returns : goal.returns
 returns c =

@@ -1,12 +1,9 @@
-use Rattle.std.proofs.Common.{◌+◌, ◌*◌, ◌-◌, refl, arith}
+use Rattle.std.proofs.Common.{refl, arith}
 use Rattle.basics.specs.laws.Rooms.{filled_none, filled_more, filled_length, filled_all}
 use Rattle.tables.proofs.every_second.Goals as goal
 
 pub loop-i-init : goal.loop-i-init
 loop-i-init c = (omega arith, filled_none)
-
-pub overflow_cast-room : goal.overflow_cast-room
-overflow_cast-room c = let a = c.args in omega (arith, c.shared_slice_known-1.given (a.from + 2 * c.loop-i.i))
 
 pub bounds-room-i : goal.bounds-room-i
 bounds-room-i c = omega (arith, filled_length c.loop-i.invariant.1 (omega arith))

@@ -23,7 +23,7 @@ fill-requires-2 c =
     let x = a.probe.now in
     let z = sized 1 (length x) (length a.room.now) c.causes-refusal.ensures c.if-refusal-ne0.false in
     let fill = c.fill in
-    ((z.some, z.short, omega (arith, z.short, fill.auto)), begins_first fill.ensures (omega (arith, z.short, length-suffix_table x)))
+    record { in_bounds = (z.some, z.short, omega (arith, z.short, fill.auto)); begins = begins_first fill.ensures (omega (arith, z.short, length-suffix_table x)) }
 
 pub every_second-requires : goal.every_second-requires
 every_second-requires c =

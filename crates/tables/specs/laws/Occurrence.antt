@@ -3,7 +3,7 @@ use Rattle.std.specs.Prelude.{◌≡◌, refl, List, ℕ, zero, suc, ◌+◌, �
 use native.Mathlib.Omega.{arith}
 use Rattle.std.proofs.Common.{eq-eqb, eqb-true}
 use Rattle.std.proofs.Math.ListN.{length}
-use Rattle.basics.specs.Lists.{at, table}
+use Rattle.basics.specs.Lists.{at}
 use Rattle.basics.specs.laws.Search.{least_from, least_le, least_passes, least_first}
 use Rattle.basics.specs.laws.Lists.{length-table, at_table}
 use Rattle.tables.specs.Occurrence.{stands_at, occurrence_at, occurrence_table}

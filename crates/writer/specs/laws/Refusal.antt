@@ -1,5 +1,5 @@
 -- Laws of the writer's causes: how each is tested, and that there is none exactly where the inputs fit. Assumes nothing.
-use Rattle.std.specs.Prelude.{◌≡◌, refl, ◌⊎◌, true, List, ℕ, ◌-◌, ◌%◌, ◌≤◌, ◌<◌, length}
+use Rattle.std.specs.Prelude.{◌≡◌, refl, ◌⊎◌, true, List, ℕ, ◌%◌, ◌≤◌, ◌<◌, length}
 use Rattle.std.proofs.Common.{sym, ap, ◌∙◌, inl, ⊎_elim, arith, lit<}
 use borrow.Author.Tests.{eq-eqb, ne_eqb, lt-ltb, le-ltb, eqb-true, ltb-false, leb-true, le-leb, not-false}
 use Rattle.basics.specs.Lists.{at}

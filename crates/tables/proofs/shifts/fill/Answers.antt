@@ -14,7 +14,7 @@ pub inner-requires : goal.inner-requires
 inner-requires c =
     let x = c.args.x.now in
     let w = c.prefixes.ensures in
-    (search rules, (rw w.others c.requires.1, front_again (table (length x) (above x)) (seconds c.args.room.now) w.written))
+    record { in_bounds = search rules; begins = rw w.others c.requires.begins; room_value = front_again (table (length x) (above x)) (seconds c.args.room.now) w.written }
 
 pub returns : goal.returns
 returns c =

@@ -1,7 +1,7 @@
 use Rattle.std.proofs.Common.{ℕ, ◌+◌, ◌-◌, ◌≡◌, refl, sym, ap, ◌∙◌, arith, List, length}
 use Rattle.basics.specs.Lists.{at}
 use Rattle.basics.specs.laws.Rooms.{Filled, filled_length}
-use Rattle.tables.specs.Both.{firsts, seconds}
+use Rattle.tables.specs.Both.{seconds}
 use Rattle.tables.specs.laws.Suffix.{suffix_reaches, suffix_entry}
 use Rattle.tables.specs.laws.Both.{at-firsts, within_firsts, half_reaches, same_halves, seconds-set, firsts_kept}
 use Rattle.tables.specs.laws.Figure11.{match_at, match_none, match_more, match_all}
@@ -11,17 +11,17 @@ pub loop-i-init : goal.loop-i-init
 loop-i-init c =
     let x = c.args.x.now in
     let u : length x - 0 ≡ length x = omega arith in
-    (omega arith, rw u (match_none x (record { is = c.requires.1.1 })), refl)
+    (omega arith, rw u (match_none x (record { is = c.requires.room_value })), refl)
 
 pub suffix-requires : goal.suffix-requires
 suffix-requires c =
     let l = c.loop-i in
-    (omega arith, within_firsts l.room l.i (omega (arith, suffix_reaches c.args.x.now c.requires.1.0, ap length l.invariant.2)))
+    (omega arith, within_firsts l.room l.i (omega (arith, suffix_reaches c.args.x.now c.requires.begins, ap length l.invariant.2)))
 
 pub overflow_sub-q : goal.overflow_sub-q
 overflow_sub-q c =
     let l = c.loop-i in
-    omega (arith, suffix_entry c.args.x.now c.requires.1.0 l.i (c.suffix.ensures ∙ sym (at-firsts l.room l.i) ∙ ap (λ (d : List ℕ). at d l.i) l.invariant.2) (omega arith))
+    omega (arith, suffix_entry c.args.x.now c.requires.begins l.i (c.suffix.ensures ∙ sym (at-firsts l.room l.i) ∙ ap (λ (d : List ℕ). at d l.i) l.invariant.2) (omega arith))
 
 pub bounds-room-q : goal.bounds-room-q
 bounds-room-q c =
@@ -36,7 +36,7 @@ loop-i-preserved c =
     let x = c.args.x.now in
     let m : ℕ = length x in
     let k = c.suffix.result in
-    let e = suffix_entry x c.requires.1.0 l.i (c.suffix.ensures ∙ sym (at-firsts l.room l.i) ∙ ap (λ (d : List ℕ). at d l.i) l.invariant.2) (omega arith) in
+    let e = suffix_entry x c.requires.begins l.i (c.suffix.ensures ∙ sym (at-firsts l.room l.i) ∙ ap (λ (d : List ℕ). at d l.i) l.invariant.2) (omega arith) in
     let u : m - 1 - l.i + 1 ≡ m - l.i = omega arith in
     let v : m - (l.i + 1) ≡ m - 1 - l.i = omega arith in
     let g : Filled (match_at x (m - 1 - l.i + 1)) (seconds c.args.room.now) m (seconds l.room) = rw u l.invariant.1 in (

@@ -1,7 +1,6 @@
 -- `tables::shifts::inner` meets its contract. The loop's invariant: the shifts from m - i on are done, and the suffix table stays.
 -- Assumes nothing.
 use Rattle.std.proofs.Common.{◌-◌, ◌≤◌, ◌≡◌, length}
-use Rattle.basics.specs.Lists.{at}
 use Rattle.basics.specs.laws.Rooms.{Filled}
 use Rattle.tables.specs.Both.{firsts, seconds}
 use Rattle.tables.specs.laws.Figure11.{match_at}

@@ -1,4 +1,4 @@
-use Rattle.std.proofs.Common.{◌-◌, refl, ap, ◌∙◌, arith, length}
+use Rattle.std.proofs.Common.{refl, ap, ◌∙◌, arith, length}
 use Rattle.basics.specs.laws.Rooms.{filled_length}
 use Rattle.tables.specs.Both.{seconds}
 use Rattle.tables.specs.laws.Both.{half_reaches, same_halves}
@@ -11,7 +11,7 @@ loop-s-init c = (omega arith, prefixes_none c.args.x.now (seconds c.args.room.no
 pub reach-to-requires : goal.reach-to-requires
 reach-to-requires c =
     let l = c.loop-s in
-    (omega arith, rw l.invariant.2 c.requires.1)
+    record { s_in_bounds = omega arith; begins = rw l.invariant.2 c.requires.begins }
 
 pub spread-requires : goal.spread-requires
 spread-requires c =

@@ -1,6 +1,6 @@
-use Rattle.std.proofs.Common.{◌-◌, refl, ap, ◌∙◌, arith, length}
+use Rattle.std.proofs.Common.{refl, ap, ◌∙◌, arith, length}
 use Rattle.basics.specs.laws.Rooms.{filled_more, filled_length, filled_all}
-use Rattle.tables.specs.Both.{firsts, seconds}
+use Rattle.tables.specs.Both.{seconds}
 use Rattle.tables.specs.laws.Both.{half_reaches, same_halves, seconds-set, firsts_kept}
 use Rattle.tables.specs.laws.Figure11.{spread_none, spread_on}
 use Rattle.tables.proofs.shifts.spread.Goals as goal

@@ -1,6 +1,6 @@
 -- `tables::suffixes::fall` meets its contract. The loop's invariant: the pairs from g1 down to low are equal, and each was counted.
 -- Assumes nothing.
-use Rattle.std.proofs.Common.{◌+◌, ◌-◌, ◌≡◌}
+use Rattle.std.proofs.Common.{◌+◌, ◌≡◌}
 use Rattle.tables.specs.laws.Figure9.{Fell}
 use Rattle.tables.proofs.suffixes.fall.Given as goal
 

@@ -1,7 +1,7 @@
 -- `tables::suffixes::suffixes` meets its contract. The loop's invariant: f and g are the page's, the entries from i on are set, and the
 -- comparisons made and those still to come are all of them (`Going`).
 -- Assumes nothing.
-use Rattle.std.proofs.Common.{◌-◌, ◌≤◌, ◌≡◌, length}
+use Rattle.std.proofs.Common.{◌≤◌, ◌≡◌, length}
 use Rattle.tables.specs.Both.{firsts, seconds}
 use Rattle.tables.specs.laws.Figure9.{Going}
 use Rattle.tables.proofs.suffixes.suffixes.Given as goal
