@@ -1,6 +1,6 @@
 -- `block` meets its contract: what the lookup answers lies in the log.
 -- Assumes nothing.
-use Rattle.drawlog.specs.laws.Promise.{found_within}
+use Rattle.drawlog.proofs.Promise.{found_within}
 use Rattle.drawlog.proofs.block.Goals as goal
 
 pub stretch-requires : goal.stretch-requires

@@ -1,6 +1,6 @@
 -- `block_at` meets its contract: what the entry call answers lies in the log.
 -- Assumes nothing.
-use Rattle.drawlog.specs.laws.Promise.{listed_within}
+use Rattle.drawlog.proofs.Promise.{listed_within}
 use Rattle.drawlog.proofs.block_at.Goals as goal
 
 pub stretch-requires : goal.stretch-requires

@@ -1,48 +1,19 @@
--- What an accepted log looks like: its blocks lie back to back from byte 0 to the directory, each within the log and of whole draws, and its ids rise strictly. Assumes nothing.
+-- What an accepted log looks like: its first block starts at byte 0, its blocks are of whole draws, and its ids rise strictly. That its blocks lie back to back, each within the log, is in proofs/Accepted. Assumes nothing.
 use Rattle.std.specs.Prelude.{◌≡◌, List, ℕ, zero, suc, ◌+◌, ◌-◌, ◌≤◌, ◌<◌, ◌%◌}
-use Rattle.std.proofs.Common.{sym, ap, ◌∙◌, ⊎_elim, eq-or-lt_of_le, arith, ltb-true}
+use Rattle.std.proofs.Common.{sym, ◌∙◌, ⊎_elim, eq-or-lt_of_le, arith, ltb-true}
 use Rattle.basics.specs.laws.Tests.{le_or_lt}
 use Rattle.basics.specs.laws.Lists.{rising-next}
-use Rattle.drawlog.specs.Log.{directory, count, draw_size, id_at, start_at, length_at}
-use Rattle.drawlog.specs.Refusal.{due}
-use Rattle.drawlog.specs.laws.Refusal.{Accepted, due_first, due-next}
+use Rattle.drawlog.specs.Log.{count, draw_size, id_at, start_at, length_at}
+use Rattle.drawlog.specs.laws.Refusal.{Accepted, due_first}
 
 module _ (s : List ℕ) (a : Accepted s) where
   -- BLOCKS: the first starts at byte 0
   pub first_block : start_at s 0 ≡ 0
   first_block = (a.each 0 a.frame.some).joined ∙ due_first s
 
-  -- the next starts where one ends
-  pub next-block : (k : ℕ) → suc k < count s → start_at s (suc k) ≡ start_at s k + length_at s k
-  next-block k h = (a.each (suc k) h).joined ∙ due-next s k
-
-  -- the last ends where the directory starts
-  pub last_block : (k : ℕ) → suc k ≡ count s → start_at s k + length_at s k ≡ directory s
-  last_block k e = sym (due-next s k) ∙ ap (due s) e ∙ a.ends
-
   -- each has whole draws
   pub whole_draws : (k : ℕ) → k < count s → length_at s k % draw_size ≡ 0
   whole_draws k h = (a.each k h).whole
-
-  -- so a draw begins at the same places, counted from a block's start or from the log's
-  starts_whole : (k : ℕ) → k < count s → start_at s k % draw_size ≡ 0
-  starts_whole zero h = rw first_block
-  starts_whole (suc k) h = omega (arith, next-block k h, starts_whole k (omega arith), whole_draws k (omega arith))
-
-  pub draws_begin : (k j : ℕ) → k < count s → (start_at s k + j) % draw_size ≡ j % draw_size
-  draws_begin k j h = omega (arith, starts_whole k h)
-
-  -- each ends before the directory
-  ends_up : (n k : ℕ) → k + suc n ≤ count s → start_at s k + length_at s k ≤ due s (k + suc n)
-  ends_up zero k h = let e : k + 1 ≡ suc k = omega arith in rw (e, due-next s k) (omega arith)
-  ends_up (suc n) k h =
-      let e : k + suc (suc n) ≡ suc (k + suc n) = omega arith in
-      rw (e, due-next s (k + suc n)) (omega (arith, ends_up n k (omega arith), (a.each (k + suc n) (omega arith)).joined))
-
-  pub block_within : (k : ℕ) → k < count s → start_at s k + length_at s k ≤ directory s
-  block_within k h =
-      let e : k + suc (count s - suc k) ≡ count s = omega arith in
-      omega (arith, rw e at (ends_up (count s - suc k) k (omega arith)), a.ends)
 
   -- IDS rise from each entry to the next, and so to any later one
   rises_to : (k : ℕ) → suc k < count s → id_at s k < id_at s (suc k)

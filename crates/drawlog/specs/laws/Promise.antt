@@ -1,5 +1,5 @@
--- Laws of the answers: each by its cases, what the lookup finds, and that the stretch that it names lies in the log. Assumes nothing.
-use Rattle.std.specs.Prelude.{◌≡◌, refl, ◌⊎◌, true, false, List, ℕ, suc, ◌+◌, ◌≤◌, ◌<◌, eqb, length}
+-- Laws of the answers: each by its cases, and what the lookup finds. That the stretch that it names lies in the log is in proofs/Promise. Assumes nothing.
+use Rattle.std.specs.Prelude.{◌≡◌, refl, ◌⊎◌, true, false, List, ℕ, suc, ◌≤◌, ◌<◌, eqb}
 use Rattle.std.proofs.Common.{sym, ap, ◌∙◌, inl, inr, ⊎_elim, true≢false, arith}
 use borrow.Author.Tests.{eq-eqb, ne_eqb, eqb-true, lt-ltb, le-ltb}
 use Rattle.basics.specs.laws.Tests.{equal_or_not, le_or_lt}
@@ -13,7 +13,7 @@ use Rattle.drawlog.specs.Refusal.{cause_of}
 use Rattle.drawlog.specs.Promise.{tested_of, seek, found_of, listed_of}
 use Rattle.drawlog.specs.laws.Log.{Reaches}
 use Rattle.drawlog.specs.laws.Refusal.{Accepted, accepted_is}
-use Rattle.drawlog.specs.laws.Accepted.{block_within, ids_rise}
+use Rattle.drawlog.specs.laws.Accepted.{ids_rise}
 
 -- THE LOOKUP finds what a search upward from entry 0 finds
 pub seek_is : {s : List ℕ} {t : Log} {n : ℕ} → Reaches s t n → (id k : ℕ) → k ≤ t.count → ((j : ℕ) → j < k → id_at s j ≡ id → ⊥)
@@ -86,27 +86,6 @@ holding s k h =
     record { cause = a; number = ap (λ (t : Tested). t.count) (tested_yes s a); good = accepted_is s a })
     (λ (a : (cause_of s).refusal ≡ 0 → ⊥). absurd (omega (arith, ap (λ (t : Tested). t.count) (tested_no s a))))
     (equal_or_not (cause_of s).refusal 0)
-
--- WHATEVER A CALL ANSWERS, the stretch that it names lies in the log
-inside : (s : List ℕ) → Accepted s → (k : ℕ) → k < count s → start_at s k + length_at s k ≤ length s
-inside s a k h = omega (arith, block_within s a k h, a.frame.size)
-
-pub found_within : (s : List ℕ) (id : ℕ) → (found_of s id).start + (found_of s id).length ≤ length s
-found_within s id =
-    ⊎_elim
-    (λ (a : (cause_of s).refusal ≡ 0). ⊎_elim
-    (λ (h : count s ≤ seek s id). rw (found_none s a id h) (omega arith))
-    (λ (h : seek s id < count s). rw (found_at s a id h) (inside s (accepted_is s a) (seek s id) h))
-    (le_or_lt (count s) (seek s id)))
-    (λ (a : (cause_of s).refusal ≡ 0 → ⊥). rw (found_no s a id) (omega arith))
-    (equal_or_not (cause_of s).refusal 0)
-
-pub listed_within : (s : List ℕ) (k : ℕ) → (listed_of s k).start + (listed_of s k).length ≤ length s
-listed_within s k =
-    ⊎_elim
-    (λ (h : (tested_of s).count ≤ k). rw (listed_none s k h) (omega arith))
-    (λ (h : k < (tested_of s).count). rw (listed_at s k h) (inside s (holding s k h).good k (omega (arith, (holding s k h).number))))
-    (le_or_lt (tested_of s).count k)
 
 -- FIND AND ENTRY AGREE: ids rise strictly, so a lookup finds the one entry with its id
 pub seek_id : (s : List ℕ) → Accepted s → (k : ℕ) → k < count s → seek s (id_at s k) ≡ k

@@ -1,7 +1,6 @@
 -- Laws of the causes: how each is tested, and what a log without any of them is. Assumes nothing.
-use Rattle.std.specs.Prelude.{◌≡◌, refl, ◌⊎◌, Bool, true, false, cond, not, ◌&&◌, List, ℕ, zero, suc, ◌+◌, ◌-◌, ◌*◌, ◌%◌, ◌≤◌, ◌<◌, leb, ltb, eqb, length}
+use Rattle.std.specs.Prelude.{◌≡◌, refl, ◌⊎◌, Bool, true, false, cond, not, ◌&&◌, List, ℕ, ◌+◌, ◌*◌, ◌%◌, ◌≤◌, ◌<◌, leb, ltb, eqb, length}
 use Rattle.std.proofs.Common.{sym, ap, ◌∙◌, inl, inr, ⊎_elim, zero-le, arith, lit<}
-use Rattle.std.proofs.Math.Numerals.{unary_clauses}
 use borrow.Author.Tests.{eq-eqb, ne_eqb, lt-ltb, le-ltb, eqb-true, ltb-false, leb-true, le-leb, not-false}
 use Rattle.basics.specs.laws.Tests.{and_true_both, equal_or_not, le_or_lt}
 use Rattle.basics.specs.laws.Causes.{passed, first_caused_is, first_caused_has, none_caused}
@@ -11,19 +10,10 @@ use Rattle.drawlog.specs.Log.{entry_size, trailer_size, longest, most, draw_size
 use Rattle.drawlog.specs.Refusal.{log_cause, rises, due, entry_cause, first_bad, cause_of}
 use Rattle.drawlog.specs.laws.Log.{Reaches}
 
--- ENTRY 0, and the entry after another
+-- ENTRY 0
 pub due_first : (s : List ℕ) → due s 0 ≡ 0
 unfolding due
 due_first s = refl
-
-pub due-next : (s : List ℕ) (k : ℕ) → due s (suc k) ≡ start_at s k + length_at s k
-unfolding due
-due-next s k = refl
-
--- the same of an entry k that is not the first, as the code sees it
-pub due-later : (s : List ℕ) (k : ℕ) → (k ≡ 0 → ⊥) → due s k ≡ start_at s (k - 1) + length_at s (k - 1)
-due-later s zero h = absurd (h refl)
-due-later s (suc k) h = simp unary_clauses (due-next s k)
 
 -- THE FIRST ENTRY that has a cause is what a search upward from entry 0 finds
 pub first_bad_is : {s : List ℕ} {t : Log} {n : ℕ} → Reaches s t n → (k : ℕ) → k ≤ t.count → ((j : ℕ) → j < k → entry_cause s j ≡ 0)

@@ -18,7 +18,8 @@ use Rattle.drawlog.specs.Log.{count, id_at, length_at}
 use Rattle.drawlog.specs.Refusal.{cause_of}
 use Rattle.drawlog.specs.Promise.{tested_of, listed_of}
 use Rattle.drawlog.specs.laws.Refusal.{accepted_is}
-use Rattle.drawlog.specs.laws.Promise.{tested_yes, tested_no, listed_at, listed_within, holding}
+use Rattle.drawlog.specs.laws.Promise.{tested_yes, tested_no, listed_at, holding}
+use Rattle.drawlog.proofs.Promise.{listed_within}
 use Rattle.pairs.specs.Check.{block, probe_size, probe, probed, Pair, pair_at, pair_with, pairs_with, pairs_of, pairs, unprobed, numbers}
 use Rattle.pairs.specs.Refusal.{needed}
 

@@ -16,6 +16,7 @@ use Rattle.drawlog.specs.Refusal as log
 use Rattle.drawlog.specs.laws.Number.{length_bytes, number_read}
 use Rattle.drawlog.specs.laws.Log.{is_marked, directory-at, count_at, id_at_lem, start_at_lem, length-at}
 use Rattle.drawlog.specs.laws.Refusal as law
+use Rattle.drawlog.proofs.Due.{due-next}
 use Rattle.writer.specs.Made.{sum_to, entry_bytes, directory_bytes, trailer_bytes, made, size_of}
 use Rattle.writer.specs.Inside.{Fit}
 use Rattle.writer.specs.laws.Made.{length-directory, length-made, sum_le, block_le}
@@ -122,7 +123,7 @@ module _ (b is ns : List ℕ) {n : ℕ} (f : Fit b is ns n) where
   due-made : (k : ℕ) → k ≤ length is → log.due s k ≡ sum_to ns k
   unfolding sum_to
   due-made zero h = law.due_first s
-  due-made (suc k) h = law.due-next s k ∙ rw (start_made k (omega arith), size_made k (omega arith))
+  due-made (suc k) h = due-next s k ∙ rw (start_made k (omega arith), size_made k (omega arith))
 
   -- IT IS ACCEPTED, where the ids are 32-bit numbers
   module _ (small : (k : ℕ) → at is k < 4294967296) where

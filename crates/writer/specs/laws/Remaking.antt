@@ -12,6 +12,7 @@ use Rattle.drawlog.specs.Refusal as log
 use Rattle.drawlog.specs.laws.Number.{bytes_read}
 use Rattle.drawlog.specs.laws.Log.{marked_is, directory-at, count_at, id_at_lem, start_at_lem, length-at}
 use Rattle.drawlog.specs.laws.Refusal as law
+use Rattle.drawlog.proofs.Due.{due-next}
 use Rattle.writer.specs.Made.{sum_to, entry_bytes, directory_bytes, trailer_bytes, made}
 use Rattle.writer.specs.Refusal.{rises}
 use Rattle.writer.specs.Contents.{blocks_of, ids_of, lengths_of}
@@ -52,7 +53,7 @@ module _ (s : List ℕ) (bytes : Bytes s) (a : law.Accepted s) where
   starts : (k : ℕ) → k ≤ count s → sum_to (lengths_of s) k ≡ log.due s k
   unfolding sum_to
   starts zero h = sym (law.due_first s)
-  starts (suc k) h = rw (starts k (omega arith), length_of k h, law.due-next s k, (a.each k h).joined)
+  starts (suc k) h = rw (starts k (omega arith), length_of k h, due-next s k, (a.each k h).joined)
 
   -- THE PARTS are those of the log
   entry_part : (k : ℕ) → k < count s → entry_bytes (ids_of s) (lengths_of s) k ≡ part s (place s k) entry_size

@@ -1,39 +1,37 @@
 -- `refusal::entry_cause` meets its contract: its three tests are the definition's, and are looked at in the same order.
+-- The answers name no test, so each exit stands on what the definition says of the tests before it.
 -- Assumes nothing.
-use Rattle.std.proofs.Common.{◌≡◌, sym, ◌∙◌, true, false, List, ℕ, ◌%◌, eqb, eq-eqb, ne_eqb}
+use Rattle.std.proofs.Common.{◌≡◌, true, false, List, ℕ, ◌%◌, arith, eq-eqb, ne_eqb}
 use Rattle.drawlog.specs.Log.{draw_size, start_at, length_at}
-use Rattle.drawlog.specs.Refusal.{due, entry_cause}
+use Rattle.drawlog.specs.Refusal.{rises, due, entry_cause}
 use Rattle.drawlog.proofs.refusal.entry_cause.Goals as goal
 
--- the tests on the values that the code has, as the definition has them
+-- the definition, by its cases
 module _ (s : List ℕ) (k : ℕ) where
-  joined : {w a d : ℕ} → w ≡ a → a ≡ start_at s k → d ≡ due s k → w ≡ d → eqb (start_at s k) (due s k) ≡ true
-  joined e f g h = eq-eqb _ _ (sym f ∙ sym e ∙ h ∙ g)
+  not_rising : rises s k ≡ false → entry_cause s k ≡ 15
+  unfolding entry_cause
+  not_rising u = rw u
 
-  apart : {w a d : ℕ} → w ≡ a → a ≡ start_at s k → d ≡ due s k → (w ≡ d → ⊥) → eqb (start_at s k) (due s k) ≡ false
-  apart e f g h = ne_eqb _ _ (λ q. h (e ∙ f ∙ q ∙ sym g))
+  not_joined : rises s k ≡ true → (start_at s k ≡ due s k → ⊥) → entry_cause s k ≡ 16
+  unfolding entry_cause
+  not_joined u j = rw (u, ne_eqb _ _ j)
 
-  whole : {n : ℕ} → n ≡ length_at s k → n % draw_size ≡ 0 → eqb (length_at s k % draw_size) 0 ≡ true
-  whole e h = eq-eqb _ _ (rw (sym e) h)
+  not_whole : rises s k ≡ true → start_at s k ≡ due s k → (length_at s k % draw_size ≡ 0 → ⊥) → entry_cause s k ≡ 17
+  unfolding entry_cause
+  not_whole u j w = rw (u, eq-eqb _ _ j, ne_eqb _ _ w)
 
-  broken : {n : ℕ} → n ≡ length_at s k → (n % draw_size ≡ 0 → ⊥) → eqb (length_at s k % draw_size) 0 ≡ false
-  broken e h = ne_eqb _ _ (λ q. h (rw e q))
+  no_cause : rises s k ≡ true → start_at s k ≡ due s k → length_at s k % draw_size ≡ 0 → entry_cause s k ≡ 0
+  unfolding entry_cause
+  no_cause u j w = rw (u, eq-eqb _ _ j, eq-eqb _ _ w)
 
 pub returns-then-not-up : goal.returns-then-not-up
-unfolding entry_cause
-returns-then-not-up c = rw (sym c.rises-up.ensures ∙ c.if-not-up.true)
+returns-then-not-up c = grind (arith, not_rising)
 
 pub returns-then-not-joined : goal.returns-then-not-joined
-unfolding entry_cause
-returns-then-not-joined c =
-    rw (sym c.rises-up.ensures ∙ c.if-not-up.false, apart c.args.s.now c.args.k c.wide.ensures c.start.ensures c.due.ensures c.if-not-joined.true)
+returns-then-not-joined c = grind (arith, not_joined)
 
 pub returns-then-not-whole : goal.returns-then-not-whole
-unfolding entry_cause
-returns-then-not-whole c =
-    rw (sym c.rises-up.ensures ∙ c.if-not-up.false, joined c.args.s.now c.args.k c.wide.ensures c.start.ensures c.due.ensures c.if-not-joined.false, broken c.args.s.now c.args.k c.length.ensures c.if-not-whole.true)
+returns-then-not-whole c = grind (arith, not_whole)
 
 pub returns : goal.returns
-unfolding entry_cause
-returns c =
-    rw (sym c.rises-up.ensures ∙ c.if-not-up.false, joined c.args.s.now c.args.k c.wide.ensures c.start.ensures c.due.ensures c.if-not-joined.false, whole c.args.s.now c.args.k c.length.ensures c.if-not-whole.false)
+returns c = grind (arith, no_cause)

@@ -1,0 +1,6 @@
+-- Laws that rest on where an entry after another is due.
+pub mod Due
+-- what an accepted log looks like
+pub mod Accepted
+-- the stretches that the calls answer
+pub mod Promise

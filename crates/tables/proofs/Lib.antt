@@ -1,0 +1,2 @@
+-- the starred rows of document 01, and the edges
+pub mod Figures
