@@ -1,5 +1,5 @@
 //! Links the library's archive, libcapi.a: from the directory that NAHUITEPOL_LIB names, else from the
-//! project's target/staticlib.
+//! project's crates/capi/out.
 
 use std::env;
 use std::path::{Path, PathBuf};
@@ -23,7 +23,7 @@ fn archive_directory() -> PathBuf {
         Some(directory) => PathBuf::from(directory),
         None => {
             let package = env::var_os("CARGO_MANIFEST_DIR").expect("cargo names the package's folder");
-            Path::new(&package).join("../../target/staticlib")
+            Path::new(&package).join("../../crates/capi/out")
         }
     }
 }

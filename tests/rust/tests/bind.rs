@@ -14,8 +14,8 @@ use nahuitepol_tests::log::{document_log, draws, LONGEST, MOST_REPLICATES};
 use nahuitepol_tests::words::Generator;
 use nahuitepol_tests::writer::Contents;
 
-const PROGRAM: &str = concat!(env!("CARGO_MANIFEST_DIR"), "/../../target/bin/bind");
-const OVERLAP: &str = concat!(env!("CARGO_MANIFEST_DIR"), "/../../target/bin/overlap");
+const PROGRAM: &str = concat!(env!("CARGO_MANIFEST_DIR"), "/../../crates/bind/out/bind");
+const OVERLAP: &str = concat!(env!("CARGO_MANIFEST_DIR"), "/../../crates/overlap/out/overlap");
 const SCRATCH: &str = concat!(env!("CARGO_MANIFEST_DIR"), "/../../target/tests/bind-runs");
 
 const USAGE: &str = "usage: bind LOG ID FILE ID FILE ..\n";

@@ -13,7 +13,7 @@ use nahuitepol_tests::log::{document_log, draws, Entry, Parts, LONGEST};
 use nahuitepol_tests::samples::{damage, numbered, random_parts, refused_logs, with_entries};
 use nahuitepol_tests::words::{fibonacci, Generator};
 
-const PROGRAM: &str = concat!(env!("CARGO_MANIFEST_DIR"), "/../../target/bin/overlap");
+const PROGRAM: &str = concat!(env!("CARGO_MANIFEST_DIR"), "/../../crates/overlap/out/overlap");
 
 /// Document 01's log as the repository has it, for the gate and the examples.
 const STORED_LOG: &str = concat!(env!("CARGO_MANIFEST_DIR"), "/../../crates/overlap/stdin");
