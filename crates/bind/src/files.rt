@@ -3,6 +3,10 @@ ghost use Rattle.std.specs.Prelude.{◌≡◌, ◌≤◌, length, take};
 ghost use Rattle.writer.specs.Made.{sum_to};
 ghost use Rattle.bind.specs.Inside.{most, too_many, word_size, line_size, blocks_size};
 
+use crate::argument;
+use std::fs::File;
+use std::io::Read as _;
+
 // The arguments: the first file, and an id between two of them.
 const FIRST_FILE: usize = 3;
 
@@ -25,6 +29,7 @@ pub(crate) struct Read {
 // Reads so many files, one behind the other, and puts their lengths to the front of a room. Where the blocks fill their
 // room, reading ends: that file's length is what was read of it, and the files behind it count 0.
 pub(crate) fn take(
+    rt: HostRuntime,
     files: usize,
     lengths: &mut [u32],
     blocks: &mut [u8],
@@ -39,8 +44,8 @@ pub(crate) fn take(
     let mut end = 0;
     let mut k = 0;
     while k < files {
-        let n = os::arg(FIRST_FILE + PAIR * k, word);
-        let read = file(&word[..n], blocks, end);
+        let n = argument(rt, FIRST_FILE + PAIR * k, word);
+        let read = file(rt, &word[..n], blocks, end);
         if !read.good {
             let said = binding::unread_line(line, &word[..n]);
             return Taken { end, said };
@@ -54,7 +59,7 @@ pub(crate) fn take(
 
 // Reads one file into the room from a place on; what stands before that stays. Where the room is full, the file is not
 // even opened.
-fn file(path: &[u8], blocks: &mut [u8], from: usize) -> Read
+fn file(rt: HostRuntime, path: &[u8], blocks: &mut [u8], from: usize) -> Read
     requires { from ≤ length blocks.old }
     ensures from_le_end { (from ≤ result.end) × (result.end ≤ length blocks.old) }
     ensures blocks_unchanged { take from blocks.new ≡ take from blocks.old }
@@ -65,27 +70,29 @@ fn file(path: &[u8], blocks: &mut [u8], from: usize) -> Read
             good: true,
         };
     }
-    let fd = os::open_read(path);
-    if fd < 0 {
-        return Read {
-            end: from,
-            good: false,
-        };
+    let unread = Read {
+        end: from,
+        good: false,
+    };
+    // A name that is no UTF-8 text is none that the library takes.
+    let Ok(name) = str::from_utf8(path) else {
+        return unread;
+    };
+    match File::open(&rt, name) {
+        Ok(opened) => whole(opened, blocks, from),
+        Err(_) => unread,
     }
-    let read = whole(fd, blocks, from);
-    libc::close(fd);
-    read
 }
 
 // Reads until the file ends or the room is full. A read that fails is told from the file's end.
-fn whole(fd: i32, blocks: &mut [u8], from: usize) -> Read
+fn whole(mut opened: File, blocks: &mut [u8], from: usize) -> Read
     requires { from ≤ length blocks.old }
     ensures from_le_end { (from ≤ result.end) × (result.end ≤ length blocks.old) }
     ensures blocks_unchanged { take from blocks.new ≡ take from blocks.old }
 {
     let mut end = from;
     while end < blocks.len() {
-        let read = some(fd, &mut blocks[end..]);
+        let read = some(&mut opened, &mut blocks[end..]);
         let count = read.end;
         if count == 0 {
             return Read {
@@ -99,12 +106,14 @@ fn whole(fd: i32, blocks: &mut [u8], from: usize) -> Read
 }
 
 // One read, to the front of the room: how far it went, 0 at the file's end and where it failed.
-fn some(fd: i32, room: &mut [u8]) -> Read
+fn some(opened: &mut File, room: &mut [u8]) -> Read
     ensures { result.end ≤ length room.old }
 {
-    let got = libc::read(fd, room);
-    Read {
-        end: io::count(got, room),
-        good: 0 <= got,
+    match opened.read(room) {
+        Ok(end) => Read { end, good: true },
+        Err(_) => Read {
+            end: 0,
+            good: false,
+        },
     }
 }

@@ -22,7 +22,7 @@ mod store; // store.rt: writes the log
 
 use basics::smaller;
 use drawlog::Log;
-use libc::STDOUT_FILENO;
+use std::env::{Env, FillError};
 
 // The arguments: the log's name, and from the first id on an id and a file for each replicate.
 const LOG: usize = 1;
@@ -46,17 +46,18 @@ const BLOCKS: usize = Log::LONGEST + Log::DRAW as usize;
 
 const ROOM: usize = Log::LONGEST;
 
-fn main() {
+fn main(rt: HostRuntime) {
     let mut line = [0u8; LINE];
-    let said = run(&mut line);
-    io::write_all(STDOUT_FILENO, &line[..said]);
+    let said = run(rt, &mut line);
+    // A write that fails is not told.
+    let _ = rt.write_all(&line[..said]);
 }
 
 // Binds what the arguments name; puts the line to be said, and answers its length.
-fn run(line: &mut [u8]) -> usize
+fn run(rt: HostRuntime, line: &mut [u8]) -> usize
     ensures { result ≤ line_size }
 {
-    let given = os::arg_count();
+    let given = arguments(rt);
     if given < FIRST_ID {
         return binding::usage_line(line);
     }
@@ -64,11 +65,31 @@ fn run(line: &mut [u8]) -> usize
     if words % PAIR != 0 {
         return binding::usage_line(line);
     }
-    bind(smaller(words / PAIR, REPLICATES), line)
+    bind(rt, smaller(words / PAIR, REPLICATES), line)
+}
+
+// How many arguments there are, with the program's name.
+fn arguments(rt: HostRuntime) -> usize {
+    for i in 0..usize::MAX {
+        if let Err(FillError::NotPresent) = rt.arg(i, &mut []) {
+            return i;
+        }
+    }
+    usize::MAX
+}
+
+// Puts argument i to the front of the word, and answers its length; 0 where there is none, or one that is too long.
+fn argument(rt: HostRuntime, i: usize, word: &mut [u8]) -> usize
+    ensures { result ≤ length word.old }
+{
+    match rt.arg(i, word) {
+        Ok(n) => n,
+        Err(_) => 0,
+    }
 }
 
 // Binds so many replicates.
-fn bind(replicates: usize, line: &mut [u8]) -> usize
+fn bind(rt: HostRuntime, replicates: usize, line: &mut [u8]) -> usize
     requires { replicates ≤ too_many }
     ensures { result ≤ line_size }
 {
@@ -77,6 +98,7 @@ fn bind(replicates: usize, line: &mut [u8]) -> usize
     let mut blocks = [0u8; BLOCKS];
     let mut word = [0u8; WORD];
     gather(
+        rt,
         replicates,
         &mut ids,
         &mut lengths,
@@ -88,6 +110,7 @@ fn bind(replicates: usize, line: &mut [u8]) -> usize
 
 // Fills the lent rooms from the arguments and their files, and has the log made of them.
 fn gather(
+    rt: HostRuntime,
     replicates: usize,
     ids: &mut [u32],
     lengths: &mut [u32],
@@ -99,17 +122,18 @@ fn gather(
     requires blocks_len { (length blocks.old ≡ blocks_size) × (length word.old ≡ word_size) }
     ensures { result ≤ line_size }
 {
-    let bad = take_ids(replicates, ids, word, line);
+    let bad = take_ids(rt, replicates, ids, word, line);
     if bad != 0 {
         return bad;
     }
-    let taken = files::take(files_of(replicates), lengths, blocks, word, line);
+    let taken = files::take(rt, files_of(replicates), lengths, blocks, word, line);
     let unread = taken.said;
     if unread != 0 {
         return unread;
     }
     let end = taken.end;
     said_of(
+        rt,
         &blocks[..end],
         &ids[..replicates],
         &lengths[..replicates],
@@ -132,13 +156,19 @@ fn files_of(replicates: usize) -> usize
 }
 
 // Reads so many ids to the front of the room. Answers 0, or the length of the line that a text is none.
-fn take_ids(replicates: usize, ids: &mut [u32], word: &mut [u8], line: &mut [u8]) -> usize
+fn take_ids(
+    rt: HostRuntime,
+    replicates: usize,
+    ids: &mut [u32],
+    word: &mut [u8],
+    line: &mut [u8],
+) -> usize
     requires { (replicates ≤ length ids.old) × (length ids.old ≡ too_many) × (length word.old ≡ word_size) }
     ensures { result ≤ line_size }
 {
     let mut k = 0;
     while k < replicates {
-        let n = os::arg(FIRST_ID + PAIR * k, word);
+        let n = argument(rt, FIRST_ID + PAIR * k, word);
         let id = binding::id_of(&word[..n]);
         if !id.good {
             return binding::bad_id_line(line, &word[..n]);
@@ -150,7 +180,14 @@ fn take_ids(replicates: usize, ids: &mut [u32], word: &mut [u8], line: &mut [u8]
 }
 
 // Makes the log and stores it. Answers the length of the line that says so.
-fn said_of(blocks: &[u8], ids: &[u32], lengths: &[u32], word: &mut [u8], line: &mut [u8]) -> usize
+fn said_of(
+    rt: HostRuntime,
+    blocks: &[u8],
+    ids: &[u32],
+    lengths: &[u32],
+    word: &mut [u8],
+    line: &mut [u8],
+) -> usize
     requires ids_len_bound { (length ids.now ≤ too_many) × (length word.old ≡ word_size) }
     requires ids_len { (length ids.now ≡ length lengths.now) × (length ids.now ≤ most → sum_to lengths.now (length ids.now) ≡ length blocks.now) }
     ensures { result ≤ line_size }
@@ -162,8 +199,8 @@ fn said_of(blocks: &[u8], ids: &[u32], lengths: &[u32], word: &mut [u8], line: &
         return binding::refused_line(line, refusal, written.entry);
     }
     let size = written.length;
-    let n = os::arg(LOG, word);
-    let stored = store::replace(&word[..n], &room[..size as usize]);
+    let n = argument(rt, LOG, word);
+    let stored = store::replace(rt, &word[..n], &room[..size as usize]);
     if !stored {
         return binding::unwritten_line(line, &word[..n]);
     }

@@ -20,26 +20,24 @@ mod probes; // probes.rt: the rows of the first table
 mod sample; // sample.rt: draw logs
 mod searches; // searches.rt: the rows of the second table, and further ones
 
-use libc::STDOUT_FILENO;
-
 // The most bytes that the text may have.
 const PAGE: usize = 4096;
 
-fn main() {
+fn main(rt: HostRuntime) {
     let mut page = [0u8; PAGE];
     let at = probes::put(&mut page, 0);
     let at = searches::put(&mut page, at);
     let at = searches::put_further(&mut page, at);
     let at = checks::put(&mut page, at);
     let at = edges::put(&mut page, at);
-    write(&page, at);
+    write(rt, &page, at);
 }
 
-// Writes the first n bytes of the page to standard output.
-fn write(page: &[u8], n: usize) {
-    if n <= page.len() {
-        io::write_all(STDOUT_FILENO, &page[..n]);
+// Writes the first n bytes of the page to standard output. A write that fails is not told.
+fn write(rt: HostRuntime, page: &[u8], n: usize) {
+    let _ = if n <= page.len() {
+        rt.write_all(&page[..n])
     } else {
-        io::write_all(STDOUT_FILENO, b"the page is too short\n");
-    }
+        rt.write_all(b"the page is too short\n")
+    };
 }

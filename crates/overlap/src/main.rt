@@ -3,18 +3,35 @@
 // A read error counts as the end of the input. The text is written by one call.
 #![tactic(auto)]
 
+ghost use Rattle.std.specs.Prelude.{◌≤◌, length};
+
 use drawlog::Log;
-use libc::{STDIN_FILENO, STDOUT_FILENO};
+use std::io::{Read, Stdin};
 
 // One byte more than a log may have, so that a longer input is refused 11.
 const INPUT: usize = Log::LONGEST + 1;
 
 const TEXT: usize = listing::LONGEST;
 
-fn main() {
+fn main(rt: HostRuntime) {
     let mut input = [0u8; INPUT];
-    let n = io::read_full(STDIN_FILENO, &mut input);
+    let n = fill(rt.stdin(), &mut input);
     let mut text = [0u8; TEXT];
     let whole = listing::put(&input[..n], &mut text);
-    io::write_all(STDOUT_FILENO, &text[..whole]);
+    // A write that fails is not told.
+    let _ = rt.write_all(&text[..whole]);
+}
+
+// Reads until the room is full, the input ends or a read fails, and answers how many bytes were read to its front.
+fn fill(mut input: Stdin, room: &mut [u8]) -> usize
+    ensures { result ≤ length room.old }
+{
+    let mut done = 0;
+    while done < room.len() {
+        match input.read(&mut room[done..]) {
+            Ok(0) | Err(_) => return done,
+            Ok(n) => done += n,
+        }
+    }
+    done
 }

@@ -56,7 +56,7 @@ pub const ROOM_SHORT: u32 = tables::ROOM_SHORT;
 
 // What a search answers. The last two say how close it came: the most trailing bytes of the probe that equal the stream in
 // a window visited, and where the first window with so many starts. On refusal every other number is 0.
-#[derive(Drop)]
+#[derive(Clone, Copy)]
 pub struct Answer {
     pub refusal: u32,
     pub occurrences: u64,

@@ -1,0 +1,10 @@
+-- `pieces::numbers` is safe and ends. The page keeps its length.
+-- Assumes nothing.
+use Rattle.std.proofs.Common.{◌-◌}
+use Rattle.figures.proofs.pieces.numbers.Given as goal
+
+abbrev pub invariant-loop-i : goal.invariant-loop-i
+invariant-loop-i l = Unit {0}
+
+abbrev pub decreases-loop-i : goal.decreases-loop-i
+decreases-loop-i l = l.n - l.i
