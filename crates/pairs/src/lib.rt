@@ -106,6 +106,7 @@ fn causes(tested: Tested, p: u32, t: usize, e: usize, n: usize) -> Cause
 }
 
 // The first of 20, 4 and 5 that holds; 0 where none does.
+#[tactic(auto, using(crate::specs::laws::Refusal::refuses_low, crate::specs::laws::Refusal::refuses_high, crate::specs::laws::Refusal::refuses_work, crate::specs::laws::Refusal::refuses_result, crate::specs::laws::Refusal::refuses_none))]
 fn own_cause(count: u32, p: u32, t: usize, e: usize, n: usize) -> u32
     requires { count ≤ most }
     ensures { result ≡ own_cause p t e n count }
