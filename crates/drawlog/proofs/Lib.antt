@@ -4,3 +4,5 @@ pub mod Due
 pub mod Accepted
 -- the stretches that the calls answer
 pub mod Promise
+-- the causes of the whole log, by their cases
+pub mod Whole

@@ -40,6 +40,7 @@ pub(crate) fn first(log: &[u8]) -> Cause
 }
 
 // The first cause of 10 to 14; 0 where none holds.
+#[tactic(auto, using(crate::proofs::Whole::too_short, crate::proofs::Whole::too_long, crate::proofs::Whole::no_mark, crate::proofs::Whole::too_few, crate::proofs::Whole::too_many, crate::proofs::Whole::bad_size, crate::proofs::Whole::no_cause))]
 fn log_cause(s: &[u8]) -> u32
     ensures { result ≡ log_cause s.now }
 {

@@ -3,7 +3,8 @@ use Rattle.lines.specs.laws.Promise.{laid_none, laid_then, laid_length}
 use Rattle.pairs.specs.Promise.{step}
 use Rattle.pairs.specs.laws.Check.{pairs_first}
 use Rattle.listing.specs.Listing.{draws}
-use Rattle.listing.specs.laws.Text.{laid_as, owners_first, owners_next}
+use Rattle.listing.specs.laws.Text.{laid_as, owners_first}
+use Rattle.listing.proofs.Turns.{owners_next}
 use Rattle.listing.proofs.owners.Goals as goal
 
 pub loop-a-init : goal.loop-a-init

@@ -2,7 +2,6 @@
 use Rattle.std.specs.Prelude.{◌≡◌, List, [], ◌∷◌, ◌++◌, ℕ, suc, ◌+◌, ◌-◌, ◌*◌, ◌≤◌, ◌<◌, length}
 use Rattle.std.proofs.Math.Path.{refl}
 use Rattle.std.proofs.Common.{sym, ap, subst, ◌∙◌, arith, eq-eqb, ne_eqb, le-leb, length-append}
-use Rattle.std.proofs.Math.Numerals.{add-one}
 use Rattle.std.proofs.lemmas.Bool.{lt-leb}
 use Rattle.basics.specs.Lists.{at}
 use Rattle.lines.specs.Put.{last_place}
@@ -66,10 +65,6 @@ module _ (s : List ℕ) where
   pub owners_first : owners_text s 0 ≡ []
   unfolding owners_text
   owners_first = refl
-
-  pub owners_next : (a : ℕ) → owners_text s a ++ owner_text s a ≡ owners_text s (a + 1)
-  unfolding owners_text
-  owners_next a = rw add-one
 
 -- the same text by another name
 pub laid_as : {d : List ℕ} {p : ℕ} {w v : List ℕ} {r : ℕ} {d' : List ℕ} → w ≡ v → Laid d p w r d' → Laid d p v r d'

@@ -1,0 +1,39 @@
+-- The causes of the whole log, by their cases, for `refusal::log_cause`. Assumes nothing.
+use Rattle.std.proofs.Common.{◌≡◌, true, false, List, ℕ, ◌+◌, ◌*◌, ◌≤◌, ◌<◌, eq-eqb, ne_eqb, lt-ltb, le-ltb, le-leb, length}
+use borrow.Author.Tests.{lt-leb}
+use Rattle.drawlog.specs.Log.{trailer_size, longest, most, entry_size, directory, count, marked}
+use Rattle.drawlog.specs.Refusal.{log_cause}
+
+module _ (s : List ℕ) where
+  pub too_short : length s < trailer_size → log_cause s ≡ 10
+  unfolding log_cause
+  too_short h = rw (lt-ltb _ _ h)
+
+  module _ (long : trailer_size ≤ length s) where
+    pub too_long : longest < length s → log_cause s ≡ 11
+    unfolding log_cause
+    too_long h = rw (le-ltb _ _ long, lt-ltb _ _ h)
+
+    module _ (short : length s ≤ longest) where
+      pub no_mark : marked s ≡ false → log_cause s ≡ 12
+      unfolding log_cause
+      no_mark h = rw (le-ltb _ _ long, le-ltb _ _ short, h)
+
+      module _ (signed : marked s ≡ true) where
+        pub too_few : count s < 1 → log_cause s ≡ 13
+        unfolding log_cause
+        too_few h = rw (le-ltb _ _ long, le-ltb _ _ short, signed, lt-leb _ _ h)
+
+        module _ (some : 1 ≤ count s) where
+          pub too_many : most < count s → log_cause s ≡ 13
+          unfolding log_cause
+          too_many h = rw (le-ltb _ _ long, le-ltb _ _ short, signed, le-leb _ _ some, lt-leb _ _ h)
+
+          module _ (few : count s ≤ most) where
+            pub bad_size : (directory s + entry_size * count s + trailer_size ≡ length s → ⊥) → log_cause s ≡ 14
+            unfolding log_cause
+            bad_size h = rw (le-ltb _ _ long, le-ltb _ _ short, signed, le-leb _ _ some, le-leb _ _ few, ne_eqb _ _ h)
+
+            pub no_cause : directory s + entry_size * count s + trailer_size ≡ length s → log_cause s ≡ 0
+            unfolding log_cause
+            no_cause h = rw (le-ltb _ _ long, le-ltb _ _ short, signed, le-leb _ _ some, le-leb _ _ few, eq-eqb _ _ h)
