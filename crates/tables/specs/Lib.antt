@@ -15,7 +15,7 @@ pub mod Promise
 pub mod Apart
 -- how many bytes are compared to fill the suffix table
 pub mod Comparisons
--- the starred rows: what the document says of them, and what the definitions compute
+-- the starred rows
 pub mod Figures
 -- what the private functions promise each other: no part of a public promise
 pub mod Inside
