@@ -1,4 +1,5 @@
--- More laws that the layers above may cite; they stand here so that an edit of a definition under them is tried on the functions.
+-- More laws that the layers above may cite. Some of each file rest on how digits follow one another (`followed`); they stand here, each file whole,
+-- so that an edit of that definition is tried on the functions.
 -- digits: the number itself again, how many, which bytes
 pub mod Digits
 -- digits written to the end of an array, the last one first

@@ -5,3 +5,5 @@ pub mod Room
 pub mod Text
 -- what the check's answer and result room say, with rooms that are large enough
 pub mod Answer
+-- how long the text can be
+pub mod Longest

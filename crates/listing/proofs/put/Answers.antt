@@ -2,7 +2,7 @@
 -- Assumes nothing.
 use Rattle.std.proofs.Common.{sym, ◌∙◌, arith, rules}
 use Rattle.listing.specs.laws.Text.{laid_as, listing-accepted}
-use Rattle.listing.proofs.Longest.{written_short}
+use Rattle.listing.specs.laws.Longest.{written_short}
 use Rattle.listing.specs.laws.Answer.{refusal_is, refused_text, count-told, held_told, missed_told}
 use Rattle.listing.proofs.put.Goals as goal
 

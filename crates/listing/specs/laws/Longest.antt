@@ -72,7 +72,8 @@ module _ (s : List ℕ) (bytes : Bytes s) (z : (cause_of s).refusal ≡ 0) where
   owners_length (suc a) =
       let more : length (pairs step draws s (suc a)) ≡ length (pairs step draws s a) + length (pairs_of step draws s a) =
       rw add-one at (sym (ap length (pairs_next step draws s a))) ∙ length-append (pairs step draws s a) (pairs_of step draws s a) in
-      omega (arith, length-append (owners_text s a) (owner_text s a), owners_length a, owner_length a)
+      -- whichever stands first
+      omega (arith, length-append (owners_text s a) (owner_text s a), length-append (owner_text s a) (owners_text s a), owners_length a, owner_length a)
 
   accepted-length : length (accepted_text s) ≤ longest
   unfolding accepted_text
