@@ -1,8 +1,9 @@
 -- The causes of the whole log, by their cases, for `refusal::log_cause`. Assumes nothing.
-use Rattle.std.proofs.Common.{◌≡◌, true, false, List, ℕ, ◌+◌, ◌*◌, ◌≤◌, ◌<◌, eq-eqb, ne_eqb, lt-ltb, le-ltb, le-leb, length}
+use Rattle.std.proofs.Common.{◌≡◌, true, false, List, ℕ, ◌+◌, ◌*◌, ◌≤◌, ◌<◌, ne_eqb, lt-ltb, le-ltb, le-leb, length}
 use borrow.Author.Tests.{lt-leb}
 use Rattle.drawlog.specs.Log.{trailer_size, longest, most, entry_size, directory, count, marked}
 use Rattle.drawlog.specs.Refusal.{log_cause}
+use Rattle.drawlog.specs.laws.Refusal.{framed_none}
 
 module _ (s : List ℕ) where
   pub too_short : length s < trailer_size → log_cause s ≡ 10
@@ -35,5 +36,4 @@ module _ (s : List ℕ) where
             bad_size h = rw (le-ltb _ _ long, le-ltb _ _ short, signed, le-leb _ _ some, le-leb _ _ few, ne_eqb _ _ h)
 
             pub no_cause : directory s + entry_size * count s + trailer_size ≡ length s → log_cause s ≡ 0
-            unfolding log_cause
-            no_cause h = rw (le-ltb _ _ long, le-ltb _ _ short, signed, le-leb _ _ some, le-leb _ _ few, eq-eqb _ _ h)
+            no_cause h = framed_none s (record { long = long; short = short; signed = signed; some = some; few = few; size = h })

@@ -128,7 +128,7 @@ accepted_is s h = ⊎_elim (λ (a : log_cause s ≡ 0). framed_log a) (λ (a : l
         (le_or_lt (count s) (first_bad s))
 
 -- AND CONVERSELY: a log with such a frame, such entries and such an end is accepted
-framed_none : (s : List ℕ) → Framed s → log_cause s ≡ 0
+pub framed_none : (s : List ℕ) → Framed s → log_cause s ≡ 0
 unfolding log_cause
 framed_none s f =
     rw (le-ltb _ _ f.long, le-ltb _ _ f.short, f.signed, le-leb _ _ f.some, le-leb _ _ f.few, eq-eqb _ _ f.size)

@@ -5,9 +5,6 @@ use Rattle.lines.proofs.word.Goals as goal
 pub loop-i-init : goal.loop-i-init
 loop-i-init c = let a = c.args in (omega arith, laid_none a.out.now a.at (omega arith))
 
-pub byte-place-requires : goal.byte-place-requires
-byte-place-requires c = tt
-
 pub loop-i-preserved : goal.loop-i-preserved
 loop-i-preserved c =
     let l = c.loop-i in

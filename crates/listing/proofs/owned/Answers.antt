@@ -6,9 +6,6 @@ use Rattle.listing.proofs.owned.Goals as goal
 pub loop-k-init : goal.loop-k-init
 loop-k-init c = (omega arith, going_none)
 
-pub wide-requires : goal.wide-requires
-wide-requires c = tt
-
 pub overflow_mul-wide : goal.overflow_mul-wide
 overflow_mul-wide c = omega (arith, c.wide.ensures)
 

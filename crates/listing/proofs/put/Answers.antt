@@ -9,7 +9,7 @@ use Rattle.listing.proofs.put.Goals as goal
 pub returns-then-refusal-ne0 : goal.returns-then-refusal-ne0
 returns-then-refusal-ne0 c =
     let text = laid_as (refused_text _ _ _ _ c.check-checked.ensures (search rules) (search rules) (search rules) c.if-refusal-ne0.true) c.refused_line.ensures in
-    record { text = text; short = written_short c.args.log.now (λ i. omega (arith, c.shared_slice_known-1.given i)) text }
+    record { text = text; short = written_short c.args.log.now (λ i. omega (arith, c.type_inv.log i)) text }
 
 pub accepted-requires : goal.accepted-requires
 accepted-requires c =
@@ -27,4 +27,4 @@ accepted-requires c =
 pub returns : goal.returns
 returns c =
     let text = laid_as (listing-accepted _ (sym (refusal_is _ _ _ _ c.check-checked.ensures (search rules) (search rules) (search rules)) ∙ c.if-refusal-ne0.false)) c.accepted.ensures in
-    record { text = text; short = written_short c.args.log.now (λ i. omega (arith, c.shared_slice_known-1.given i)) text }
+    record { text = text; short = written_short c.args.log.now (λ i. omega (arith, c.type_inv.log i)) text }

@@ -11,31 +11,26 @@ causes-cause-requires c = rw c.test-tested.ensures (tested_few _)
 
 pub returns-then-refusal-ne0 : goal.returns-then-refusal-ne0
 returns-then-refusal-ne0 c =
-    let a = c.args in
-    refused_is (cause_is a.log.now a.p a.tables.now a.memory.now a.res.now c.test-tested.ensures c.causes-cause.ensures) c.if-refusal-ne0.true
+    refused_is (cause_is _ _ _ _ _ c.test-tested.ensures c.causes-cause.ensures) c.if-refusal-ne0.true
 
 pub owners-done-requires : goal.owners-done-requires
 owners-done-requires c =
-    let a = c.args in
-    let g = granted (cause_is a.log.now a.p a.tables.now a.memory.now a.res.now c.test-tested.ensures c.causes-cause.ensures) c.if-refusal-ne0.false in
+    let g = granted (cause_is _ _ _ _ _ c.test-tested.ensures c.causes-cause.ensures) c.if-refusal-ne0.false in
     let e = ap (λ (t : Tested). t.count) c.test-tested.ensures in
     record { count_value = (e, g.allowed.some, g.allowed.short, rw e g.allowed.result); ready = g.ready }
 
 pub probe_size-size-requires : goal.probe_size-size-requires
 probe_size-size-requires c =
-    let a = c.args in
-    (granted (cause_is a.log.now a.p a.tables.now a.memory.now a.res.now c.test-tested.ensures c.causes-cause.ensures) c.if-refusal-ne0.false).allowed.short
+    (granted (cause_is _ _ _ _ _ c.test-tested.ensures c.causes-cause.ensures) c.if-refusal-ne0.false).allowed.short
 
 pub overflow_mul-size : goal.overflow_mul-size
 overflow_mul-size c =
-    let a = c.args in
-    let g = granted (cause_is a.log.now a.p a.tables.now a.memory.now a.res.now c.test-tested.ensures c.causes-cause.ensures) c.if-refusal-ne0.false in
+    let g = granted (cause_is _ _ _ _ _ c.test-tested.ensures c.causes-cause.ensures) c.if-refusal-ne0.false in
     omega (arith, c.probe_size-size.ensures, g.allowed.short)
 
 pub returns : goal.returns
 returns c =
-    let a = c.args in
     let size = c.probe_size-size in
     let found = c.owners-done.ensures in
-    done_is (cause_is a.log.now a.p a.tables.now a.memory.now a.res.now c.test-tested.ensures c.causes-cause.ensures) c.if-refusal-ne0.false
+    done_is (cause_is _ _ _ _ _ c.test-tested.ensures c.causes-cause.ensures) c.if-refusal-ne0.false
     (ap (λ (t : Tested). t.count) c.test-tested.ensures) size.ensures found.found found.unprobed_value found.worked c.clear16.ensures c.clear.ensures
