@@ -5,5 +5,7 @@ pub mod Search
 pub mod Lists
 -- a lent room after a call
 pub mod Rooms
+-- refusals by their numbers
+pub mod Refusal
 -- the laws about them
 pub mod laws

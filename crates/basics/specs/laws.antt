@@ -13,3 +13,5 @@ pub mod Endings
 pub mod Rooms
 -- lists laid into a room, one after another
 pub mod Inlaid
+-- refusals have numbers above 0
+pub mod Refusal

@@ -2,11 +2,11 @@
 // draw log, and says in a line how it went.
 //
 // main       writes the line
+// message    what the line says
 // run        the arguments' number
-// bind       the rooms
-// gather     ids, then blocks, then the log
+// bind       ids, then blocks, then the log
 // take_ids   the ids, out of the arguments
-// said_of    the log written, or the writer's refusal
+// stored     the log made and stored, or why not
 //            the blocks, out of the files       module files
 //            the log's file                     module store
 //
@@ -15,12 +15,15 @@
 
 ghost use Rattle.std.specs.Prelude.{◌≡◌, ◌≤◌, length};
 ghost use Rattle.writer.specs.Made.{sum_to};
-ghost use Rattle.bind.specs.Inside.{most, too_many, word_size, line_size, blocks_size};
+ghost use Rattle.binding.specs.Said.{name_of};
+ghost use Rattle.bind.specs.declared.Failure.TheVariants.{Refused};
+ghost use Rattle.bind.specs.Inside.{most, too_many};
 
 mod files; // files.rt: reads the blocks
 mod store; // store.rt: writes the log
 
-use basics::smaller;
+use basics::Fault;
+use binding::Message;
 use drawlog::Log;
 use std::env::{Env, FillError};
 
@@ -46,26 +49,64 @@ const BLOCKS: usize = Log::LONGEST + Log::DRAW as usize;
 
 const ROOM: usize = Log::LONGEST;
 
+// Why nothing was bound. An argument is told by its number.
+#[derive(Clone, Copy, Debug, PartialEq, Eq)]
+enum Failure {
+    Usage,
+    BadId(usize),
+    Unread(usize),
+    Refused(Fault),
+    Unwritten,
+}
+
+impl From<Fault> for Failure {
+    ghost from_gives = { λ fault failure. failure ≡ Refused fault };
+
+    fn from(fault: Fault) -> Failure {
+        Failure::Refused(fault)
+    }
+}
+
+// How many replicates were bound, and the bytes of the log.
+#[derive(Clone, Copy, Debug, PartialEq, Eq)]
+struct Bound {
+    replicates: u32,
+    bytes: u32,
+}
+
 fn main(rt: HostRuntime) {
+    let mut word = [0u8; WORD];
     let mut line = [0u8; LINE];
-    let said = run(rt, &mut line);
+    let outcome = run(rt, &mut word);
+    let said = message(rt, outcome, &mut word).put(&mut line);
     // A write that fails is not told.
     let _ = rt.write_all(&line[..said]);
 }
 
-// Binds what the arguments name; puts the line to be said, and answers its length.
-fn run(rt: HostRuntime, line: &mut [u8]) -> usize
-    ensures { result ≤ line_size }
+// What is said of the outcome; an argument that it names is put into the word once more.
+fn message<'a>(rt: HostRuntime, outcome: Result<Bound, Failure>, word: &'a mut [u8]) -> Message<'a>
+    ensures { length (name_of result) ≤ length word.old }
 {
+    match outcome {
+        Ok(Bound { replicates, bytes }) => Message::Bound { replicates, bytes },
+        Err(Failure::Usage) => Message::Usage,
+        Err(Failure::BadId(i)) => Message::BadId(argument(rt, i, word)),
+        Err(Failure::Unread(i)) => Message::Unread(argument(rt, i, word)),
+        Err(Failure::Refused(fault)) => Message::Refused {
+            refusal: fault.refusal.number(),
+            entry: fault.entry,
+        },
+        Err(Failure::Unwritten) => Message::Unwritten(argument(rt, LOG, word)),
+    }
+}
+
+// Binds what the arguments name.
+fn run(rt: HostRuntime, word: &mut [u8]) -> Result<Bound, Failure> {
     let given = arguments(rt);
-    if given < FIRST_ID {
-        return binding::usage_line(line);
+    if given < FIRST_ID || (given - FIRST_ID) % PAIR != 0 {
+        return Err(Failure::Usage);
     }
-    let words = given - FIRST_ID;
-    if words % PAIR != 0 {
-        return binding::usage_line(line);
-    }
-    bind(rt, smaller(words / PAIR, REPLICATES), line)
+    bind(rt, ((given - FIRST_ID) / PAIR).min(REPLICATES), word)
 }
 
 // How many arguments there are, with the program's name.
@@ -78,67 +119,32 @@ fn arguments(rt: HostRuntime) -> usize {
     usize::MAX
 }
 
-// Puts argument i to the front of the word, and answers its length; 0 where there is none, or one that is too long.
-fn argument(rt: HostRuntime, i: usize, word: &mut [u8]) -> usize
-    ensures { result ≤ length word.old }
+// Argument i, put to the front of the word; an empty text where there is none, or one that is too long.
+fn argument(rt: HostRuntime, i: usize, word: &mut [u8]) -> &[u8]
+    ensures { length result.now ≤ length word.old }
 {
     match rt.arg(i, word) {
-        Ok(n) => n,
-        Err(_) => 0,
+        Ok(n) => &word[..n],
+        Err(_) => &word[..0],
     }
 }
 
-// Binds so many replicates.
-fn bind(rt: HostRuntime, replicates: usize, line: &mut [u8]) -> usize
+// Binds so many replicates. That they are at most `too_many` is a clause: two contracts say it of a number and two of the
+// length of a slice, and a type for each would be no plainer.
+fn bind(rt: HostRuntime, replicates: usize, word: &mut [u8]) -> Result<Bound, Failure>
     requires { replicates ≤ too_many }
-    ensures { result ≤ line_size }
 {
     let mut ids = [0u32; REPLICATES];
     let mut lengths = [0u32; REPLICATES];
     let mut blocks = [0u8; BLOCKS];
-    let mut word = [0u8; WORD];
-    gather(
-        rt,
-        replicates,
-        &mut ids,
-        &mut lengths,
-        &mut blocks,
-        &mut word,
-        line,
-    )
-}
-
-// Fills the lent rooms from the arguments and their files, and has the log made of them.
-fn gather(
-    rt: HostRuntime,
-    replicates: usize,
-    ids: &mut [u32],
-    lengths: &mut [u32],
-    blocks: &mut [u8],
-    word: &mut [u8],
-    line: &mut [u8],
-) -> usize
-    requires replicates_le_too_many { (replicates ≤ too_many) × (length ids.old ≡ too_many) × (length lengths.old ≡ too_many) }
-    requires blocks_len { (length blocks.old ≡ blocks_size) × (length word.old ≡ word_size) }
-    ensures { result ≤ line_size }
-{
-    let bad = take_ids(rt, replicates, ids, word, line);
-    if bad != 0 {
-        return bad;
-    }
-    let taken = files::take(rt, files_of(replicates), lengths, blocks, word, line);
-    let unread = taken.said;
-    if unread != 0 {
-        return unread;
-    }
-    let end = taken.end;
-    said_of(
+    take_ids(rt, &mut ids[..replicates], word)?;
+    let end = files::take(rt, &mut lengths[..files_of(replicates)], &mut blocks, word)?;
+    stored(
         rt,
         &blocks[..end],
         &ids[..replicates],
         &lengths[..replicates],
         word,
-        line,
     )
 }
 
@@ -146,6 +152,7 @@ fn gather(
 fn files_of(replicates: usize) -> usize
     requires { replicates ≤ too_many }
     ensures upper_bound { result ≤ most }
+    ensures within { result ≤ replicates }
     ensures value { replicates ≤ most → result ≡ replicates }
 {
     if replicates < REPLICATES {
@@ -155,54 +162,35 @@ fn files_of(replicates: usize) -> usize
     }
 }
 
-// Reads so many ids to the front of the room. Answers 0, or the length of the line that a text is none.
-fn take_ids(
-    rt: HostRuntime,
-    replicates: usize,
-    ids: &mut [u32],
-    word: &mut [u8],
-    line: &mut [u8],
-) -> usize
-    requires { (replicates ≤ length ids.old) × (length ids.old ≡ too_many) × (length word.old ≡ word_size) }
-    ensures { result ≤ line_size }
+// Reads an id for each entry of the room.
+fn take_ids(rt: HostRuntime, ids: &mut [u32], word: &mut [u8]) -> Result<(), Failure>
+    requires { length ids.old ≤ too_many }
 {
-    let mut k = 0;
-    while k < replicates {
-        let n = argument(rt, FIRST_ID + PAIR * k, word);
-        let id = binding::id_of(&word[..n]);
-        if !id.good {
-            return binding::bad_id_line(line, &word[..n]);
-        }
-        ids[k] = id.value;
-        k += 1;
+    for k in 0..ids.len() {
+        let i = FIRST_ID + PAIR * k;
+        ids[k] = binding::id_of(argument(rt, i, word)).ok_or(Failure::BadId(i))?;
     }
-    0
+    Ok(())
 }
 
-// Makes the log and stores it. Answers the length of the line that says so.
-fn said_of(
+// Makes the log and stores it.
+fn stored(
     rt: HostRuntime,
     blocks: &[u8],
     ids: &[u32],
     lengths: &[u32],
     word: &mut [u8],
-    line: &mut [u8],
-) -> usize
-    requires ids_len_bound { (length ids.now ≤ too_many) × (length word.old ≡ word_size) }
-    requires ids_len { (length ids.now ≡ length lengths.now) × (length ids.now ≤ most → sum_to lengths.now (length ids.now) ≡ length blocks.now) }
-    ensures { result ≤ line_size }
+) -> Result<Bound, Failure>
+    requires few { length ids.now ≤ too_many }
+    requires whole { (length ids.now ≡ length lengths.now) × (length ids.now ≤ most → sum_to lengths.now (length ids.now) ≡ length blocks.now) }
 {
     let mut room = [0u8; ROOM];
-    let written = writer::write(blocks, ids, lengths, &mut room);
-    let refusal = written.refusal;
-    if refusal != 0 {
-        return binding::refused_line(line, refusal, written.entry);
-    }
-    let size = written.length;
-    let n = argument(rt, LOG, word);
-    let stored = store::replace(rt, &word[..n], &room[..size as usize]);
-    if !stored {
-        return binding::unwritten_line(line, &word[..n]);
-    }
-    binding::bound_line(line, ids.len() as u32, size)
+    let bytes = writer::write(blocks, ids, lengths, &mut room)?;
+    store::replace(rt, argument(rt, LOG, word), &room[..bytes as usize]).map_err(
+        |_| Failure::Unwritten,
+    )?;
+    Ok(Bound {
+        replicates: ids.len() as u32,
+        bytes,
+    })
 }

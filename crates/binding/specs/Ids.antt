@@ -1,7 +1,6 @@
 -- An id as text: one or more decimal digits that name a number of 32 bits. Zeros may stand in front. Assumes nothing.
-use Rattle.std.specs.Prelude.{Bool, true, false, ◌&&◌, cond, List, [], ◌∷◌, ℕ, ◌^◌, leb, ltb, length}
+use Rattle.std.specs.Prelude.{Bool, true, false, ◌&&◌, cond, List, [], ◌∷◌, ℕ, ◌^◌, Option, Some, None, leb, ltb, length}
 use Rattle.lines.specs.Digits.{zero_byte, digit_byte, value}
-use Rattle.binding.specs.declared.Id.{Id}
 
 -- every id is below it
 abbrev pub limit : ℕ
@@ -18,6 +17,16 @@ all_digits (b ∷ w) = is_digit b && all_digits w
 -- the text w is an id
 unfoldable pub is_id : List ℕ → Bool
 is_id w = ltb 0 (length w) && (all_digits w && ltb (value w) limit)
+
+-- An id. Where the text is none, the value is 0.
+pub record Id : Type 0 where
+  pub good : Bool
+  pub value : ℕ
+
+-- the id that a call answers
+abbrev pub id_seen : Option ℕ → Id
+id_seen (Some v) = record { good = true; value = v }
+id_seen None = record { good = false; value = 0 }
 
 -- the id, or that there is none
 unfoldable pub id_of : List ℕ → Id

@@ -1,6 +1,8 @@
 -- The lines that `bind` prints. Assumes nothing.
 use Rattle.std.specs.Prelude.{List, [], ◌∷◌, ◌++◌, ℕ}
-use Rattle.lines.specs.Line.{line_end}
+use Rattle.lines.specs.Line.{line_end, numbers_line}
+use Rattle.binding.specs.declared.Message.{Message}
+use Rattle.binding.specs.declared.Message.TheVariants.{Bound, Refused, Unread, Unwritten, BadId, Usage}
 
 -- WORDS
 -- "bound "
@@ -36,3 +38,21 @@ name_line w name = (w ++ name) ++ line_end
 -- how the program is called
 unfoldable pub usage_line : List ℕ
 usage_line = usage_word ++ line_end
+
+-- WHAT IS SAID
+abbrev pub text_of : Message → List ℕ
+text_of (Bound replicates bytes) = numbers_line bound_word replicates bytes
+text_of (Refused refusal entry) = numbers_line refused_word refusal entry
+text_of (Unread file) = name_line unread_word file.now
+text_of (Unwritten log) = name_line unwritten_word log.now
+text_of (BadId text) = name_line bad_id_word text.now
+text_of Usage = usage_line
+
+-- the name in it; none where there is none
+abbrev pub name_of : Message → List ℕ
+name_of (Bound replicates bytes) = []
+name_of (Refused refusal entry) = []
+name_of (Unread file) = file.now
+name_of (Unwritten log) = log.now
+name_of (BadId text) = text.now
+name_of Usage = []

@@ -2,9 +2,12 @@
 ghost use Rattle.std.specs.Prelude.{◌≡◌};
 ghost use Rattle.drawlog.specs.Promise.{tested_of, found_of};
 ghost use Rattle.writer.specs.Promise.{Writing};
-ghost use Rattle.capi.specs.Seen.{tested_seen, found_seen, written_seen};
+ghost use Rattle.capi.specs.Seen.{tested_seen, found_seen, written_seen, FromTested, FromFound, FromWritten};
 
-// nahui_tested
+use basics::Fault;
+use drawlog::Span;
+
+// nahui_tested. The refusal is a number, 0 for none: the C interface.
 #[repr(C)]
 #[derive(Drop)]
 pub struct Tested {
@@ -13,7 +16,26 @@ pub struct Tested {
     pub count: u32,
 }
 
-// nahui_found
+impl From<Result<u32, Fault>> for Tested {
+    ghost from_gives = { FromTested };
+
+    fn from(outcome: Result<u32, Fault>) -> Tested {
+        match outcome {
+            Ok(count) => Tested {
+                refusal: 0,
+                entry: 0,
+                count,
+            },
+            Err(fault) => Tested {
+                refusal: fault.refusal.number(),
+                entry: fault.entry,
+                count: 0,
+            },
+        }
+    }
+}
+
+// nahui_found. The refusal is a number, 0 for none: the C interface.
 #[repr(C)]
 #[derive(Drop)]
 pub struct Found {
@@ -23,7 +45,28 @@ pub struct Found {
     pub length: u32,
 }
 
-// nahui_written
+impl From<Result<Span, Fault>> for Found {
+    ghost from_gives = { FromFound };
+
+    fn from(outcome: Result<Span, Fault>) -> Found {
+        match outcome {
+            Ok(span) => Found {
+                refusal: 0,
+                entry: 0,
+                start: span.start,
+                length: span.length,
+            },
+            Err(fault) => Found {
+                refusal: fault.refusal.number(),
+                entry: fault.entry,
+                start: 0,
+                length: 0,
+            },
+        }
+    }
+}
+
+// nahui_written. The refusal is a number, 0 for none: the C interface.
 #[repr(C)]
 #[derive(Drop)]
 pub struct Written {
@@ -32,29 +75,37 @@ pub struct Written {
     pub length: u32,
 }
 
+impl From<Result<u32, Fault>> for Written {
+    ghost from_gives = { FromWritten };
+
+    fn from(outcome: Result<u32, Fault>) -> Written {
+        match outcome {
+            Ok(length) => Written {
+                refusal: 0,
+                entry: 0,
+                length,
+            },
+            Err(fault) => Written {
+                refusal: fault.refusal.number(),
+                entry: fault.entry,
+                length: 0,
+            },
+        }
+    }
+}
+
 #[unsafe(no_mangle)]
 pub extern "C" fn nahui_log_test(log: &[u8]) -> Tested
     ensures { tested_seen result ≡ tested_of log.now }
 {
-    let tested = drawlog::test(log);
-    Tested {
-        refusal: tested.refusal,
-        entry: tested.entry,
-        count: tested.count,
-    }
+    Tested::from(drawlog::test(log))
 }
 
 #[unsafe(no_mangle)]
 pub extern "C" fn nahui_log_find(log: &[u8], id: u32) -> Found
     ensures { found_seen result ≡ found_of log.now id }
 {
-    let found = drawlog::find(log, id);
-    Found {
-        refusal: found.refusal,
-        entry: found.entry,
-        start: found.start,
-        length: found.length,
-    }
+    Found::from(drawlog::find(log, id))
 }
 
 #[unsafe(no_mangle)]
@@ -66,10 +117,5 @@ pub extern "C" fn nahui_log_write(
 ) -> Written
     ensures { Writing blocks.now ids.now lengths.now room.old (written_seen result) room.new }
 {
-    let written = writer::write(blocks, ids, lengths, room);
-    Written {
-        refusal: written.refusal,
-        entry: written.entry,
-        length: written.length,
-    }
+    Written::from(writer::write(blocks, ids, lengths, room))
 }

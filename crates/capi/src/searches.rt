@@ -1,9 +1,13 @@
 // The two scans, for C.
 ghost use Rattle.std.specs.Prelude.{◌≡◌};
 ghost use Rattle.scans.specs.Promise.{Plainly, Rememberingly};
-ghost use Rattle.capi.specs.Seen.{answer_seen};
+ghost use Rattle.capi.specs.Seen.{answer_seen, FromAnswer};
 
-// nahui_searched. A search has no entries, so its entry number is always 0.
+use basics::Refusal;
+use scans::Answer;
+
+// nahui_searched. The refusal is a number, 0 for none: the C interface. A search has no entries, so its entry number is
+// always 0.
 #[repr(C)]
 #[derive(Drop)]
 pub struct Searched {
@@ -17,6 +21,41 @@ pub struct Searched {
     pub closest_at: u64,
 }
 
+// The answer to a search that finds and does nothing.
+const NONE: Searched = Searched {
+    refusal: 0,
+    entry: 0,
+    occurrences: 0,
+    written: 0,
+    windows: 0,
+    comparisons: 0,
+    closest: 0,
+    closest_at: 0,
+};
+
+impl From<Result<Answer, Refusal>> for Searched {
+    ghost from_gives = { FromAnswer };
+
+    fn from(outcome: Result<Answer, Refusal>) -> Searched {
+        match outcome {
+            Ok(a) => Searched {
+                refusal: 0,
+                entry: 0,
+                occurrences: a.occurrences,
+                written: a.written,
+                windows: a.windows,
+                comparisons: a.comparisons,
+                closest: a.closest,
+                closest_at: a.closest_at,
+            },
+            Err(refusal) => Searched {
+                refusal: refusal.number(),
+                ..NONE
+            },
+        }
+    }
+}
+
 #[unsafe(no_mangle)]
 pub extern "C" fn nahui_plain(
     probe: &[u8],
@@ -28,7 +67,7 @@ pub extern "C" fn nahui_plain(
         tables.new positions.new }
     ensures entry { result.entry ≡ 0 }
 {
-    for_c(scans::plain(probe, stream, tables, positions))
+    Searched::from(scans::plain(probe, stream, tables, positions))
 }
 
 #[unsafe(no_mangle)]
@@ -43,21 +82,5 @@ pub extern "C" fn nahui_remember(
         tables.new memory.new positions.new }
     ensures entry { result.entry ≡ 0 }
 {
-    for_c(scans::remember(probe, stream, tables, memory, positions))
-}
-
-fn for_c(a: scans::Answer) -> Searched
-    ensures answer { answer_seen result ≡ a }
-    ensures entry { result.entry ≡ 0 }
-{
-    Searched {
-        refusal: a.refusal,
-        entry: 0,
-        occurrences: a.occurrences,
-        written: a.written,
-        windows: a.windows,
-        comparisons: a.comparisons,
-        closest: a.closest,
-        closest_at: a.closest_at,
-    }
+    Searched::from(scans::remember(probe, stream, tables, memory, positions))
 }

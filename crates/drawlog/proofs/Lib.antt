@@ -6,3 +6,7 @@ pub mod Accepted
 pub mod Promise
 -- the causes of the whole log, by their cases
 pub mod Whole
+-- the causes of an entry, by their cases
+pub mod Entries
+-- the outcomes of the code, by their cases
+pub mod Outcomes

@@ -1,8 +1,14 @@
--- The causes of the whole log, by their cases, for `refusal::log_cause`. Assumes nothing.
-use Rattle.std.proofs.Common.{◌≡◌, true, false, List, ℕ, ◌+◌, ◌*◌, ◌≤◌, ◌<◌, ne_eqb, lt-ltb, le-ltb, le-leb, length}
+-- The causes of the whole log, by their cases, and its mark as the code compares it, for `refusal::framed` and `refusal::marked`. Assumes nothing.
+use Rattle.std.proofs.Common.{◌≡◌, true, false, List, ℕ, ◌+◌, ◌-◌, ◌*◌, ◌≤◌, ◌<◌, eqb, ne_eqb, lt-ltb, le-ltb, le-leb, length, drop, refl, sym, ap, ◌∙◌, arith}
+use Rattle.std.specs.Bool.{Decides}
+use Rattle.std.specs.List.{ends_with}
+use Rattle.std.proofs.lemmas.Slice.Eq.{slice_eq-Decides}
+use Rattle.std.proofs.lemmas.Bool.Decides.{Decides-eqb}
 use borrow.Author.Tests.{lt-leb}
-use Rattle.drawlog.specs.Log.{trailer_size, longest, most, entry_size, directory, count, marked}
+use Rattle.basics.specs.laws.Tests.{same_test}
+use Rattle.drawlog.specs.Log.{trailer_size, longest, most, entry_size, mark, trailer, directory, count, marked}
 use Rattle.drawlog.specs.Refusal.{log_cause}
+use Rattle.drawlog.specs.laws.Log.{is_marked, marked_is}
 use Rattle.drawlog.specs.laws.Refusal.{framed_none}
 
 module _ (s : List ℕ) where
@@ -37,3 +43,12 @@ module _ (s : List ℕ) where
 
             pub no_cause : directory s + entry_size * count s + trailer_size ≡ length s → log_cause s ≡ 0
             no_cause h = framed_none s (record { long = long; short = short; signed = signed; some = some; few = few; size = h })
+
+-- THE MARK: the last four bytes are compared with it
+pub ends_in_mark : (s : List ℕ) → trailer_size ≤ length s → marked s ≡ ends_with eqb s mark
+ends_in_mark s long =
+    let stands : drop (length s - 4) s ≡ drop (trailer s + 8) s = ap (λ n. drop n s) (omega arith) in
+    let told : Decides (ends_with eqb s mark) (mark ≡ drop (length s - 4) s) = slice_eq-Decides Decides-eqb _ _ _ refl in
+    same_test _ _ (λ h. told.1 (sym (stands ∙ marked_is s h))) (λ h. is_marked s (sym (told.0 h ∙ stands)))
+
+pub ruleset whole = (too_short, too_long, no_mark, too_few, too_many, bad_size, no_cause)

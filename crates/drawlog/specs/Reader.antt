@@ -1,9 +1,20 @@
 -- The reader held open over one log, as a value: how it is made, what it hands out, and how it goes on. Assumes nothing.
 use Rattle.std.specs.Prelude.{Bool, cond, List, [], ◌∷◌, ℕ, zero, suc, ◌+◌, min, max, take, drop}
 use Rattle.std.specs.Borrow.{Bor}
-use Rattle.drawlog.specs.declared.Cause.{Cause}
-use Rattle.drawlog.specs.declared.reader.Reader.{Reader}
+use Rattle.basics.specs.Refusal.{Cause, cause_seen}
+use Rattle.drawlog.specs.declared.reader.Reader as held
 use Rattle.drawlog.specs.Promise.{tested_of, found_of, listed_of, has_entry, BlockAt}
+
+-- the log, the number of the next entry, the refusal and the entry at fault
+pub record Reader : Type 0 where
+  pub log : Bor (List ℕ)
+  pub next : ℕ
+  pub refusal : ℕ
+  pub fault : ℕ
+
+-- the reader of the code, as that value
+abbrev pub reader_seen : held.Reader → Reader
+reader_seen r = record { log = r.log; next = r.next; refusal = (cause_seen r.outcome).refusal; fault = (cause_seen r.outcome).entry }
 
 -- made by the log test: before entry 0, with the refusal and its entry number
 abbrev pub opened : Bor (List ℕ) → Reader

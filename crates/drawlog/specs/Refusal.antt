@@ -2,7 +2,7 @@
 use Rattle.std.specs.Prelude.{Bool, cond, not, ◌&&◌, List, ℕ, zero, suc, ◌+◌, ◌*◌, ◌%◌, eqb, leb, ltb, length}
 use Rattle.basics.specs.Lists.{rising}
 use Rattle.basics.specs.Search.{first_caused}
-use Rattle.drawlog.specs.declared.Cause.{Cause}
+use Rattle.basics.specs.Refusal.{Cause}
 use Rattle.drawlog.specs.Log.{entry_size, trailer_size, longest, most, draw_size, directory, count, marked, id_at, start_at, length_at}
 
 -- the first cause of 10 to 14 that holds; 0 where none does

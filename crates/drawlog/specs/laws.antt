@@ -11,5 +11,7 @@ pub mod Accepted
 pub mod Promise
 -- the reader
 pub mod Reader
+-- outcomes with one answer are one
+pub mod Seen
 -- equal inputs, equal outcomes
 pub mod Determined

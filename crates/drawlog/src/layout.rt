@@ -1,11 +1,8 @@
-// The draw log's own type: its sizes, mark, limits and refusal numbers, and how its trailer and its entries are read.
+// The draw log's own type: its sizes, mark and limits, and how its trailer is read.
 // Reader, writer and salvage use these and no other numbers.
-ghost use Rattle.std.specs.Prelude.{◌≡◌, ◌+◌, ◌*◌, ◌≤◌, ◌<◌, length};
+ghost use Rattle.std.specs.Prelude.{◌≡◌, ◌+◌, ◌*◌, ◌≤◌, length};
 ghost use Rattle.drawlog.specs.Number.{number};
-ghost use Rattle.drawlog.specs.Log.{entry_size, trailer_size, log_of, id_at, start_at, length_at};
-ghost use Rattle.drawlog.specs.laws.Log.{Reaches};
-
-use basics::wide;
+ghost use Rattle.drawlog.specs.Log.{entry_size, trailer_size, log_of};
 
 // What a log's trailer says.
 #[derive(Clone, Copy)]
@@ -17,9 +14,6 @@ pub struct Log {
 impl Log {
     // A number takes 4 bytes, low byte first, and so does the mark.
     pub const WORD: usize = 4;
-
-    // How many values a byte has.
-    pub const BYTE: u32 = 256;
 
     // A directory entry: id, start, length.
     pub const ENTRY: usize = 12;
@@ -48,26 +42,8 @@ impl Log {
     // The bytes of a draw.
     pub const DRAW: u32 = 8;
 
-    // The refusals, by document 01's table.
-    pub const TOO_SHORT: u32 = 10;
-
-    pub const TOO_LONG: u32 = 11;
-
-    pub const NO_MARK: u32 = 12;
-
-    pub const BAD_COUNT: u32 = 13;
-
-    pub const BAD_SIZE: u32 = 14;
-
-    pub const NOT_RISING: u32 = 15;
-
-    pub const NOT_JOINED: u32 = 16;
-
-    pub const NOT_WHOLE: u32 = 17;
-
-    pub const NO_SUCH_ID: u32 = 18;
-
     // What the trailer of s says.
+    #[tactic(auto, unfolding(crate::specs::Log::directory, crate::specs::Log::count))]
     pub(crate) fn of(s: &[u8]) -> Self
         requires { trailer_size ≤ length s.now }
         ensures { result ≡ log_of s.now }
@@ -83,57 +59,37 @@ impl Log {
     pub(crate) fn place(self, k: u32) -> usize
         ensures { result ≡ self.directory + entry_size * k }
     {
-        wide(self.directory) + Log::ENTRY * wide(k)
+        self.directory as usize + Log::ENTRY * k as usize
     }
 
     // The length of a log with this trailer.
     pub(crate) fn size(self) -> usize
         ensures { result ≡ self.directory + entry_size * self.count + trailer_size }
     {
-        let count = self.count;
-        self.place(count) + Log::TRAILER
-    }
-
-    // The id of entry k.
-    pub(crate) fn id(self, s: &[u8], k: u32) -> u32
-        requires { Reaches s.now self (k + 1) }
-        ensures { result ≡ id_at s.now k }
-    {
-        number(s, self.place(k))
-    }
-
-    // Where the block of entry k starts.
-    pub(crate) fn start(self, s: &[u8], k: u32) -> u32
-        requires { Reaches s.now self (k + 1) }
-        ensures { result ≡ start_at s.now k }
-    {
-        number(s, self.place(k) + Log::START_AT)
-    }
-
-    // How many bytes the block of entry k has.
-    pub(crate) fn length(self, s: &[u8], k: u32) -> u32
-        requires { Reaches s.now self (k + 1) }
-        ensures { result ≡ length_at s.now k }
-    {
-        number(s, self.place(k) + Log::LENGTH_AT)
+        self.place(self.count) + Log::TRAILER
     }
 }
 
-// A byte as a 32-bit number.
-fn byte(b: u8) -> u32
-    ensures { (result ≡ b) × (result < 256) }
-{
-    b as u32
+// A block's start and length in bytes.
+#[derive(Clone, Copy, Debug, PartialEq, Eq)]
+pub struct Span {
+    pub start: u32,
+    pub length: u32,
+}
+
+// An entry: its id, and its block's start and length. It stands here and not in lib.rt, where its name would differ from `entry` in case alone.
+#[derive(Clone, Copy, Debug, PartialEq, Eq)]
+pub struct Entry {
+    pub id: u32,
+    pub start: u32,
+    pub length: u32,
 }
 
 // The 32-bit number at byte o, low byte first.
-fn number(s: &[u8], o: usize) -> u32
+#[tactic(auto, unfolding(crate::specs::Number::number))]
+pub(crate) fn number(s: &[u8], o: usize) -> u32
     requires { o + 4 ≤ length s.now }
     ensures { result ≡ number s.now o }
 {
-    let a = byte(s[o]);
-    let b = byte(s[o + 1]);
-    let c = byte(s[o + 2]);
-    let d = byte(s[o + 3]);
-    a + Log::BYTE * (b + Log::BYTE * (c + Log::BYTE * d))
+    u32::from_le_bytes([s[o], s[o + 1], s[o + 2], s[o + 3]])
 }

@@ -1,68 +1,62 @@
-// The reader held open over one log. Each function over it is thin: it takes the struct apart and calls a function over the plain slice.
+// The reader held open over one log. Each function over it is thin: it calls a function over the plain slice.
 ghost use Rattle.std.specs.Prelude.{◌≡◌};
-ghost use Rattle.drawlog.specs.Promise.{has_entry};
-ghost use Rattle.drawlog.specs.Reader.{opened, carried, left, Handed, ahead, skipped};
+ghost use Rattle.basics.specs.Refusal.{cause_seen};
+ghost use Rattle.drawlog.specs.Promise.{tested_of};
+ghost use Rattle.drawlog.specs.Reader.{reader_seen, opened, carried, left, Handed, skipped};
 
-use crate::{Cause, block_at, entry, test};
-use basics::{larger, smaller, wide};
+use crate::{block_at, test};
+use basics::Fault;
 
-// The log, the number of the next entry, the refusal and the entry at fault. No other crate can make one but by `open`.
+// The log, the number of the next entry, and the outcome of the log test. No other crate can make one but by `open`.
 #[derive(Clone, Copy)]
 pub struct Reader<'a> {
     log: &'a [u8],
     next: u32,
-    refusal: u32,
-    fault: u32,
+    outcome: Result<(), Fault>,
 }
 
 impl<'a> Reader<'a> {
     // A reader over the log, made by the log test. Over a refused log no block is left from the start.
     pub fn open(log: &'a [u8]) -> Reader<'a>
-        ensures { result ≡ opened log.entry }
+        ensures { reader_seen result ≡ opened log.entry }
     {
-        let t = test(log);
         Reader {
             log,
             next: 0,
-            refusal: t.refusal,
-            fault: t.entry,
+            outcome: test(log).map(|_| ()),
         }
     }
 
     // The refusal that it carries, with its entry number.
-    pub fn refused(self) -> Cause
-        ensures { result ≡ carried self.entry }
+    pub fn refused(self) -> Result<(), Fault>
+        ensures { cause_seen result ≡ carried (reader_seen self.entry) }
     {
-        Cause {
-            refusal: self.refusal,
-            entry: self.fault,
-        }
+        self.outcome
     }
 
-    // Whether a block is left: what tells an empty block from none.
+    // Whether a block is left: what tells an empty block from none. No Option in place of this and `block`: `left`, `Handed` and
+    // the theorems over them, `stays_none` and `reads_all`, may not change.
     pub fn left(self) -> bool
-        ensures { result ≡ left self.entry }
+        ensures { result ≡ left (reader_seen self.entry) }
     {
-        left_at(self.log, self.next)
+        self.next < count(self.log)
     }
 
-    // The next block, being that stretch of the log; an empty one where none is left.
+    // The next block, being that stretch of the log; an empty one where none is left, as `Handed` has it.
     pub fn block(self) -> &'a [u8]
-        ensures { Handed self.entry result }
+        ensures { Handed (reader_seen self.entry) result }
     {
         block_at(self.log, self.next)
     }
 
     // The reader that many blocks on: one after each block that was read. Past the last it stays.
     pub fn skip(self, blocks: u32) -> Reader<'a>
-        ensures { result ≡ skipped self.entry blocks }
+        ensures { reader_seen result ≡ skipped (reader_seen self.entry) blocks }
     {
-        let n = ahead(self.log, self.next, blocks);
+        let on = self.next.saturating_add(blocks);
         Reader {
-            log: self.log,
-            next: n,
-            refusal: self.refusal,
-            fault: self.fault,
+            next: on.min(count(self.log)).max(self.next),
+            ..self
         }
     }
 }
@@ -74,19 +68,9 @@ pub fn read(log: &[u8], k: u32) -> &[u8]
     Reader::open(log).skip(k).block()
 }
 
-// Whether there is an entry k.
-fn left_at(log: &[u8], k: u32) -> bool
-    ensures { result ≡ has_entry log.now k }
+// How many blocks the log has; none where it is refused.
+fn count(log: &[u8]) -> u32
+    ensures { result ≡ (tested_of log.now).count }
 {
-    let e = entry(log, k);
-    e.there
-}
-
-// The number of the entry n on from entry k: the count at most, and never below k.
-fn ahead(log: &[u8], k: u32, n: u32) -> u32
-    ensures { result ≡ ahead log.now k n }
-{
-    let t = test(log);
-    let end = smaller(wide(k) + wide(n), wide(t.count));
-    larger(wide(k), end) as u32
+    test(log).unwrap_or(0)
 }

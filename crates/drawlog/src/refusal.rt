@@ -1,143 +1,106 @@
 // Why a log is refused: the causes 10 to 17, each in one place, in document 01's order.
-ghost use Rattle.std.specs.Prelude.{◌≡◌, ◌+◌, ◌≤◌, length};
-ghost use Rattle.drawlog.specs.Log.{trailer_size, marked};
-ghost use Rattle.drawlog.specs.Refusal.{log_cause, rises, due, entry_cause, first_bad, cause_of};
-ghost use Rattle.drawlog.specs.laws.Log.{Reaches};
+ghost use Rattle.std.specs.Prelude.{◌≡◌, ◌≤◌, ◌<◌, length, IfOk};
+ghost use Rattle.basics.specs.Refusal.{refusal_seen, cause_seen};
+ghost use Rattle.drawlog.specs.Log.{trailer_size, count, marked};
+ghost use Rattle.drawlog.specs.Refusal.{log_cause, rises, due, entry_cause, cause_of};
 
-use crate::Cause;
+use crate::directory::Directory;
 use crate::layout::Log;
-use basics::wide;
+use basics::{Fault, Refusal};
 
-// The first cause to refuse a log, with its entry number.
-pub(crate) fn first(log: &[u8]) -> Cause
-    ensures { result ≡ cause_of log.now }
+// The directory of an accepted log; else the first cause to refuse it, with its entry number.
+#[tactic(auto, using(crate::proofs::Outcomes::entry_fault, crate::proofs::Outcomes::end_fault, crate::proofs::Outcomes::no_fault))]
+pub(crate) fn accepted(log: &[u8]) -> Result<Directory<'_>, Fault>
+    ensures cause { cause_seen result ≡ cause_of log.now }
+    ensures over { IfOk result (λ d. d.log ≡ log.entry) }
 {
-    let whole = log_cause(log);
-    if whole != 0 {
-        return Cause {
-            refusal: whole,
-            entry: 0,
-        };
+    let directory = framed(log).map_err(Fault::of_whole)?;
+    let count = directory.count();
+    for k in 0..count {
+        if let Err(refusal) = directory.entry_cause(k) {
+            return Err(Fault { refusal, entry: k });
+        }
     }
-    let t = Log::of(log);
-    let count = t.count;
-    let directory = t.directory;
-    let k = first_bad(log, t);
-    if k < count {
-        let refusal = entry_cause(log, t, k);
-        return Cause { refusal, entry: k };
-    }
-    if due(log, t, count) != wide(directory) {
-        return Cause {
-            refusal: Log::NOT_JOINED,
+    if directory.due(count) != directory.trailer.directory as usize {
+        return Err(Fault {
+            refusal: Refusal::NotJoined,
             entry: count,
-        };
+        });
     }
-    Cause {
-        refusal: 0,
-        entry: 0,
-    }
+    Ok(directory)
 }
 
-// The first cause of 10 to 14; 0 where none holds.
-#[tactic(auto, using(crate::proofs::Whole::too_short, crate::proofs::Whole::too_long, crate::proofs::Whole::no_mark, crate::proofs::Whole::too_few, crate::proofs::Whole::too_many, crate::proofs::Whole::bad_size, crate::proofs::Whole::no_cause))]
-fn log_cause(s: &[u8]) -> u32
-    ensures { result ≡ log_cause s.now }
+// The directory of a log with none of the causes 10 to 14; else the first of them.
+#[tactic(auto, using(crate::proofs::Whole::whole))]
+fn framed(log: &[u8]) -> Result<Directory<'_>, Refusal>
+    ensures cause { refusal_seen result ≡ log_cause log.now }
+    ensures over { IfOk result (λ d. d.log ≡ log.entry) }
 {
-    if s.len() < Log::TRAILER {
-        return Log::TOO_SHORT;
+    if log.len() < Log::TRAILER {
+        return Err(Refusal::LogShort);
     }
-    if Log::LONGEST < s.len() {
-        return Log::TOO_LONG;
+    if Log::LONGEST < log.len() {
+        return Err(Refusal::LogLong);
     }
-    if !marked(s) {
-        return Log::NO_MARK;
+    if !marked(log) {
+        return Err(Refusal::NoMark);
     }
-    let t = Log::of(s);
-    let count = t.count;
-    if count < Log::FEWEST {
-        return Log::BAD_COUNT;
+    let trailer = Log::of(log);
+    if trailer.count < Log::FEWEST || Log::MOST < trailer.count {
+        return Err(Refusal::BadCount);
     }
-    if Log::MOST < count {
-        return Log::BAD_COUNT;
+    if trailer.size() != log.len() {
+        return Err(Refusal::BadSize);
     }
-    if t.size() != s.len() {
-        return Log::BAD_SIZE;
-    }
-    0
+    Ok(Directory { log, trailer })
 }
 
 // Whether s ends in the mark.
+#[tactic(auto, using(crate::proofs::Whole::ends_in_mark))]
 fn marked(s: &[u8]) -> bool
     requires { trailer_size ≤ length s.now }
     ensures { result ≡ marked s.now }
 {
-    let at = s.len() - Log::TRAILER + Log::MARK_AT;
-    let mark = Log::MARK;
-    let mut i = 0;
-    while i < Log::WORD {
-        if s[at + i] != mark[i] {
-            return false;
+    s.ends_with(&Log::MARK)
+}
+
+impl Directory<'_> {
+    // The first cause of 15 to 17 of entry k.
+    #[tactic(auto, using(crate::proofs::Entries::causes))]
+    fn entry_cause(self, k: u32) -> Result<(), Refusal>
+        requires { k < count self.log.now }
+        ensures { refusal_seen result ≡ entry_cause self.entry.log.now k }
+    {
+        if !self.rises(k) {
+            return Err(Refusal::NotRising);
         }
-        i += 1;
-    }
-    true
-}
-
-// The first entry that has a cause; the count where none has.
-fn first_bad(s: &[u8], t: Log) -> u32
-    requires { Reaches s.now t t.count }
-    ensures { (result ≡ first_bad s.now) × (result ≤ t.count) }
-{
-    let count = t.count;
-    let mut k = 0;
-    while k < count {
-        if entry_cause(s, t, k) != 0 {
-            return k;
+        if self.start(k) as usize != self.due(k) {
+            return Err(Refusal::NotJoined);
         }
-        k += 1;
+        if self.length(k) % Log::DRAW != 0 {
+            return Err(Refusal::NotWhole);
+        }
+        Ok(())
     }
-    k
-}
 
-// The first cause of 15 to 17 of entry k; 0 where none holds.
-fn entry_cause(s: &[u8], t: Log, k: u32) -> u32
-    requires { Reaches s.now t (k + 1) }
-    ensures { result ≡ entry_cause s.now k }
-{
-    let up = rises(s, t, k);
-    let joined = wide(t.start(s, k)) == due(s, t, k);
-    let whole = t.length(s, k) % Log::DRAW == 0;
-    if !up {
-        return Log::NOT_RISING;
+    // Whether the id of entry k is above the one before.
+    #[tactic(auto, using(crate::proofs::Entries::rising))]
+    fn rises(self, k: u32) -> bool
+        requires { k < count self.log.now }
+        ensures { result ≡ rises self.entry.log.now k }
+    {
+        k == 0 || self.id(k - 1) < self.id(k)
     }
-    if !joined {
-        return Log::NOT_JOINED;
-    }
-    if !whole {
-        return Log::NOT_WHOLE;
-    }
-    0
-}
 
-// Whether the id of entry k is above the one before.
-fn rises(s: &[u8], t: Log, k: u32) -> bool
-    requires { Reaches s.now t (k + 1) }
-    ensures { result ≡ rises s.now k }
-{
-    if k == 0 {
-        return true;
+    // Where block k has to start. A sum of two 32-bit numbers, taken in 64 bits.
+    #[tactic(auto, using(crate::proofs::Entries::dues))]
+    fn due(self, k: u32) -> usize
+        requires { k ≤ count self.log.now }
+        ensures { result ≡ due self.entry.log.now k }
+    {
+        if k == 0 {
+            return 0;
+        }
+        self.start(k - 1) as usize + self.length(k - 1) as usize
     }
-    t.id(s, k - 1) < t.id(s, k)
-}
-
-// Where block k has to start. A sum of two 32-bit numbers, taken in 64 bits.
-fn due(s: &[u8], t: Log, k: u32) -> usize
-    requires { Reaches s.now t k }
-    ensures { result ≡ due s.now k }
-{
-    if k == 0 {
-        return 0;
-    }
-    wide(t.start(s, k - 1)) + wide(t.length(s, k - 1))
 }

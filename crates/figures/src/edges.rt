@@ -1,6 +1,9 @@
 // The edges: for each, what is just accepted and what is just refused, by the number of document 01's table.
-use crate::pieces::{labelled, verdict, wide};
+use crate::pieces::{labelled, verdict};
 use crate::sample;
+use basics::Refusal;
+use lines::Text;
+use scans::Answer;
 
 // What the longest probe needs of a room with an entry for each byte, and of the room for both tables.
 const WORK: usize = 4096;
@@ -10,145 +13,132 @@ const PAIRED: usize = 2 * WORK;
 // The numbers that the pairs of three replicates take: 4 * 3 * 2.
 const RESULT: usize = 24;
 
-// Puts the edges.
-pub(crate) fn put(out: &mut [u8], at: usize) -> usize {
-    let at = lines::word(out, at, b"\nEdges\n");
-    let at = of_probes(out, at);
-    let at = of_rooms(out, at);
-    let at = of_logs(out, at);
-    of_draws(out, at)
-}
-
-// The longest probe, and one that is too long.
-fn of_probes(out: &mut [u8], at: usize) -> usize {
-    let at = probe(out, at, &[b'a'; 4096]);
-    probe(out, at, &[b'a'; 4097])
-}
-
-// The shortest rooms of a scan, and those that are too short.
-fn of_rooms(out: &mut [u8], at: usize) -> usize {
-    let at = paired(out, at, b"abab", &mut [0u16; 8]);
-    let at = paired(out, at, b"abab", &mut [0u16; 7]);
-    let at = memory(out, at, b"abab", &mut [0u32; 4]);
-    memory(out, at, b"abab", &mut [0u32; 3])
-}
-
-// A log that is too short, and one that is too long.
-fn of_logs(out: &mut [u8], at: usize) -> usize {
-    let at = log(out, at, &[0u8; 11]);
-    log(out, at, &[0u8; 65537])
-}
-
-// The most draws of a probe, and one more.
-fn of_draws(out: &mut [u8], at: usize) -> usize {
-    let at = draws(out, at, 512);
-    draws(out, at, 513)
+// Puts the edges: the longest probe; the shortest rooms of a scan; the shortest log, and the longest; and the most draws of a
+// probe.
+pub(crate) fn put(text: &mut Text<'_>) {
+    text.word(b"\nEdges\n");
+    probe(text, &[b'a'; 4096]);
+    probe(text, &[b'a'; 4097]);
+    paired(text, b"abab", &mut [0u16; 8]);
+    paired(text, b"abab", &mut [0u16; 7]);
+    memory(text, b"abab", &mut [0u32; 4]);
+    memory(text, b"abab", &mut [0u32; 3]);
+    log(text, &[0u8; 11]);
+    log(text, &[0u8; 65537]);
+    draws(text, 512);
+    draws(text, 513);
 }
 
 // Puts what the table calls and the scans say to a probe.
-fn probe(out: &mut [u8], at: usize, x: &[u8]) -> usize {
-    let at = labelled(out, at, b"probe of ", x.len() as u64);
-    let at = by_tables(out, at, x);
-    let at = by_scans(out, at, x);
-    lines::byte(out, at, b'\n')
+fn probe(text: &mut Text<'_>, x: &[u8]) {
+    labelled(text, b"probe of ", x.len() as u64);
+    by_tables(text, x);
+    said(text, b", plain ", plain(x, &mut [0u16; PAIRED]).err());
+    said(
+        text,
+        b", remembering ",
+        remember(x, &mut [0u32; WORK]).err(),
+    );
+    text.byte(b'\n');
 }
 
 // Puts what the table calls say to a probe.
-fn by_tables(out: &mut [u8], at: usize, x: &[u8]) -> usize {
-    let at = said(out, at, b" bytes: suffix ", suffix_refusal(x));
-    let at = said(out, at, b", shift ", shift_refusal(x));
-    let at = said(out, at, b", both ", both_refusal(x));
-    said(out, at, b", occurrence ", tables::occurrence(x).refusal)
-}
-
-// Puts what the scans say to a probe.
-fn by_scans(out: &mut [u8], at: usize, x: &[u8]) -> usize {
-    let at = said(out, at, b", plain ", plain_refusal(x, &mut [0u16; PAIRED]));
+fn by_tables(text: &mut Text<'_>, x: &[u8]) {
     said(
-        out,
-        at,
-        b", remembering ",
-        remember_refusal(x, &mut [0u32; WORK]),
-    )
+        text,
+        b" bytes: suffix ",
+        tables::suffix(x, &mut [0u32; WORK]).err(),
+    );
+    said(text, b", shift ", tables::shift(x, &mut [0u32; WORK]).err());
+    said(text, b", both ", tables::both(x, &mut [0u16; PAIRED]).err());
+    said(text, b", occurrence ", tables::occurrence(x).err());
 }
 
 // Puts a word and a verdict.
-fn said(out: &mut [u8], at: usize, label: &[u8], refusal: u32) -> usize {
-    let at = lines::word(out, at, label);
-    verdict(out, at, refusal)
+fn said(text: &mut Text<'_>, label: &[u8], refusal: Option<Refusal>) {
+    text.word(label);
+    verdict(text, refusal);
 }
 
-// What the suffix call says to a probe.
-fn suffix_refusal(x: &[u8]) -> u32 {
-    tables::suffix(x, &mut [0u32; WORK])
+// The plain scan of an empty stream for a probe, with a room for both tables. This and `remember` are lent the room that a row
+// is about; those of `searches` have rooms of their own. One function for both would take every room, and be no plainer.
+fn plain(x: &[u8], tables: &mut [u16]) -> Result<Answer, Refusal> {
+    scans::plain(x, b"", tables, &mut [])
 }
 
-// What the shift call says to a probe.
-fn shift_refusal(x: &[u8]) -> u32 {
-    tables::shift(x, &mut [0u32; WORK])
+// The remembering scan of an empty stream for a probe, with a memory room.
+fn remember(x: &[u8], memory: &mut [u32]) -> Result<Answer, Refusal> {
+    scans::remember(x, b"", &mut [0u16; PAIRED], memory, &mut [])
 }
 
-// What the call for both tables says to a probe.
-fn both_refusal(x: &[u8]) -> u32 {
-    tables::both(x, &mut [0u16; PAIRED])
-}
-
-// What the plain scan says to a probe and a room for both tables, over an empty stream.
-fn plain_refusal(x: &[u8], tables: &mut [u16]) -> u32 {
-    let a = scans::plain(x, b"", tables, &mut [0u32; 0]);
-    a.refusal
-}
-
-// What the remembering scan says to a probe and a memory room, over an empty stream.
-fn remember_refusal(x: &[u8], memory: &mut [u32]) -> u32 {
-    let mut tables = [0u16; PAIRED];
-    let a = scans::remember(x, b"", &mut tables, memory, &mut [0u32; 0]);
-    a.refusal
+// Puts what a scan says to a room: so many numbers or entries.
+fn room(
+    text: &mut Text<'_>,
+    x: &[u8],
+    what: &[u8],
+    n: usize,
+    unit: &[u8],
+    outcome: Result<Answer, Refusal>,
+) {
+    labelled(text, b"probe of ", x.len() as u64);
+    text.word(b" bytes, ");
+    labelled(text, what, n as u64);
+    said(text, unit, outcome.err());
+    text.byte(b'\n');
 }
 
 // Puts what the plain scan says to a room for both tables.
-fn paired(out: &mut [u8], at: usize, x: &[u8], room: &mut [u16]) -> usize {
-    let at = labelled(out, at, b"probe of ", x.len() as u64);
-    let at = labelled(
-        out,
-        at,
-        b" bytes, room for both tables of ",
-        room.len() as u64,
+fn paired(text: &mut Text<'_>, x: &[u8], tables: &mut [u16]) {
+    let outcome = plain(x, tables);
+    room(
+        text,
+        x,
+        b"room for both tables of ",
+        tables.len(),
+        b" numbers: ",
+        outcome,
     );
-    let at = said(out, at, b" numbers: ", plain_refusal(x, room));
-    lines::byte(out, at, b'\n')
 }
 
 // Puts what the remembering scan says to a memory room.
-fn memory(out: &mut [u8], at: usize, x: &[u8], room: &mut [u32]) -> usize {
-    let at = labelled(out, at, b"probe of ", x.len() as u64);
-    let at = labelled(out, at, b" bytes, memory room of ", room.len() as u64);
-    let at = said(out, at, b" entries: ", remember_refusal(x, room));
-    lines::byte(out, at, b'\n')
+fn memory(text: &mut Text<'_>, x: &[u8], entries: &mut [u32]) {
+    let outcome = remember(x, entries);
+    room(
+        text,
+        x,
+        b"memory room of ",
+        entries.len(),
+        b" entries: ",
+        outcome,
+    );
 }
 
 // Puts what the log test says to a log.
-fn log(out: &mut [u8], at: usize, bytes: &[u8]) -> usize {
-    let at = labelled(out, at, b"log of ", bytes.len() as u64);
-    let at = said(out, at, b" bytes: ", drawlog::test(bytes).refusal);
-    lines::byte(out, at, b'\n')
+fn log(text: &mut Text<'_>, bytes: &[u8]) {
+    labelled(text, b"log of ", bytes.len() as u64);
+    said(
+        text,
+        b" bytes: ",
+        drawlog::test(bytes).err().map(|fault| fault.refusal),
+    );
+    text.byte(b'\n');
 }
 
 // Puts what the overlap check of document 01's log says to probes of p draws.
-fn draws(out: &mut [u8], at: usize, p: u32) -> usize {
+fn draws(text: &mut Text<'_>, p: u32) {
     let mut log = [0u8; sample::SIZE];
     let size = sample::put(&mut log);
-    let at = labelled(out, at, b"log of ", size as u64);
-    let at = labelled(out, at, b" bytes, probes of ", wide(p));
-    let at = said(out, at, b" draws: ", check_refusal(&log, p));
-    lines::byte(out, at, b'\n')
+    labelled(text, b"log of ", size as u64);
+    labelled(text, b" bytes, probes of ", u64::from(p));
+    said(text, b" draws: ", check(&log, p));
+    text.byte(b'\n');
 }
 
-// What the overlap check says to a log and probes of p draws.
-fn check_refusal(log: &[u8], p: u32) -> u32 {
+// Why the overlap check of a log refuses probes of p draws, if it does.
+fn check(log: &[u8], p: u32) -> Option<Refusal> {
     let mut tables = [0u16; PAIRED];
     let mut memory = [0u32; WORK];
     let mut result = [0u32; RESULT];
-    let c = pairs::check(log, p, &mut tables, &mut memory, &mut result);
-    c.refusal
+    let outcome = pairs::check(log, p, &mut tables, &mut memory, &mut result);
+    outcome.err().map(|fault| fault.refusal)
 }

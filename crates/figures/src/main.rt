@@ -8,9 +8,8 @@
 // edges     what is just accepted, and what is just refused
 // sample    document 01's log of three replicates, and logs of two
 //
-// Each row is put into one page, from a place on, and the place after it is answered, as `lines` has it. Each number that
-// is printed is a call's answer, or says what the call was given: a length, or the draws of a probe. The bound is reckoned
-// from the two lengths.
+// Each row is put into one page, as `lines::Text` has it. Each number that is printed is a call's answer, or says what the
+// call was given: a length, or the draws of a probe. The bound is reckoned from the two lengths.
 #![tactic(auto)]
 
 mod checks; // checks.rt: the overlap check of two replicates
@@ -20,24 +19,29 @@ mod probes; // probes.rt: the rows of the first table
 mod sample; // sample.rt: draw logs
 mod searches; // searches.rt: the rows of the second table, and further ones
 
+use lines::Text;
+
 // The most bytes that the text may have.
 const PAGE: usize = 4096;
 
 fn main(rt: HostRuntime) {
     let mut page = [0u8; PAGE];
-    let at = probes::put(&mut page, 0);
-    let at = searches::put(&mut page, at);
-    let at = searches::put_further(&mut page, at);
-    let at = checks::put(&mut page, at);
-    let at = edges::put(&mut page, at);
-    write(rt, &page, at);
+    let size = put(&mut page);
+    write(rt, page.get(..size));
 }
 
-// Writes the first n bytes of the page to standard output. A write that fails is not told.
-fn write(rt: HostRuntime, page: &[u8], n: usize) {
-    let _ = if n <= page.len() {
-        rt.write_all(&page[..n])
-    } else {
-        rt.write_all(b"the page is too short\n")
-    };
+// Puts the whole text to the front of the page, and answers its length.
+fn put(page: &mut [u8]) -> usize {
+    let mut text = Text::new(page);
+    probes::put(&mut text);
+    searches::put(&mut text);
+    searches::put_further(&mut text);
+    checks::put(&mut text);
+    edges::put(&mut text);
+    text.place()
+}
+
+// Writes the text to standard output, if the page held it. A write that fails is not told.
+fn write(rt: HostRuntime, text: Option<&[u8]>) {
+    let _ = rt.write_all(text.unwrap_or(b"the page is too short\n"));
 }

@@ -1,68 +1,65 @@
-// Draw logs, each put from the front of the room on. Answered is how many bytes it has.
+// Draw logs, each put from the front of the room on. By hand and not by `writer`, so that what the calls are shown on is not
+// made by a call.
+use lines::Text;
 
 // The bytes of document 01's log: 32, 40 and 5 draws, three entries of the directory, and the trailer.
 pub(crate) const SIZE: usize = 664;
 
 // Puts a log of two replicates, 1 and 2, with these blocks.
-pub(crate) fn two(log: &mut [u8], first: &[u8], second: &[u8]) -> usize {
-    let start = lines::word(log, 0, first);
-    let end = lines::word(log, start, second);
-    let at = entry(log, end, 1, 0, start);
-    let at = entry(log, at, 2, start, second.len());
-    trailer(log, at, end, 2)
+pub(crate) fn two(log: &mut [u8], first: &[u8], second: &[u8]) {
+    let mut text = Text::new(log);
+    text.word(first);
+    let start = text.place();
+    text.word(second);
+    let end = text.place();
+    entry(&mut text, 1, 0, first.len());
+    entry(&mut text, 2, start, second.len());
+    trailer(&mut text, end, 2);
 }
 
-// Puts document 01's log: replicate 3 has draws 0 to 31; 7 has 100 to 107, then 0 to 31; 9 has five draws of 0.
+// Puts document 01's log: replicate 3 has draws 0 to 31; 7 has 100 to 107, then 0 to 31; 9 has five draws of 0. Answered is
+// how many bytes it has.
 pub(crate) fn put(log: &mut [u8]) -> usize {
-    let at = blocks(log, 0);
-    let at = directory(log, at);
-    trailer(log, at, 616, 3)
+    let mut text = Text::new(log);
+    blocks(&mut text);
+    entry(&mut text, 3, 0, 256);
+    entry(&mut text, 7, 256, 320);
+    entry(&mut text, 9, 576, 40);
+    trailer(&mut text, 616, 3);
+    text.place()
 }
 
 // Puts the three blocks, back to back.
-fn blocks(log: &mut [u8], at: usize) -> usize {
-    let at = draws(log, at, 0, 32);
-    let at = draws(log, at, 100, 108);
-    let at = draws(log, at, 0, 32);
-    lines::word(log, at, &[0u8; 40])
-}
-
-// Puts their entries.
-fn directory(log: &mut [u8], at: usize) -> usize {
-    let at = entry(log, at, 3, 0, 256);
-    let at = entry(log, at, 7, 256, 320);
-    entry(log, at, 9, 576, 40)
+fn blocks(text: &mut Text<'_>) {
+    draws(text, 0, 32);
+    draws(text, 100, 108);
+    draws(text, 0, 32);
+    text.word(&[0u8; 40]);
 }
 
 // Puts the draws from `first` on, below `end`, each in 8 bytes.
-fn draws(log: &mut [u8], at: usize, first: u8, end: u8) -> usize {
-    let mut place = at;
-    let mut draw = first;
-    while draw < end {
-        place = lines::byte(log, place, draw);
-        place = lines::word(log, place, &[0u8; 7]);
-        draw += 1;
+fn draws(text: &mut Text<'_>, first: u8, end: u8) {
+    for draw in first..end {
+        text.byte(draw);
+        text.word(&[0u8; 7]);
     }
-    place
 }
 
 // Puts an entry of the directory.
-fn entry(log: &mut [u8], at: usize, id: usize, start: usize, length: usize) -> usize {
-    let at = number(log, at, id);
-    let at = number(log, at, start);
-    number(log, at, length)
+fn entry(text: &mut Text<'_>, id: usize, start: usize, length: usize) {
+    number(text, id);
+    number(text, start);
+    number(text, length);
 }
 
 // Puts the trailer, which points back to the directory.
-fn trailer(log: &mut [u8], at: usize, start: usize, count: usize) -> usize {
-    let at = number(log, at, start);
-    let at = number(log, at, count);
-    lines::word(log, at, b"DRAW")
+fn trailer(text: &mut Text<'_>, start: usize, count: usize) {
+    number(text, start);
+    number(text, count);
+    text.word(b"DRAW");
 }
 
 // Puts a number in 4 bytes, low byte first; those of these logs are below 2^16.
-fn number(log: &mut [u8], at: usize, n: usize) -> usize {
-    let at = lines::byte(log, at, (n % 256) as u8);
-    let at = lines::byte(log, at, (n / 256 % 256) as u8);
-    lines::word(log, at, &[0u8; 2])
+fn number(text: &mut Text<'_>, n: usize) {
+    text.word(&((n % 65536) as u32).to_le_bytes());
 }

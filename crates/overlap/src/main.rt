@@ -22,7 +22,8 @@ fn main(rt: HostRuntime) {
     let _ = rt.write_all(&text[..whole]);
 }
 
-// Reads until the room is full, the input ends or a read fails, and answers how many bytes were read to its front.
+// Reads until the room is full, the input ends or a read fails, and answers how many bytes were read to its front. std's
+// `read_to_end` would need a heap.
 fn fill(mut input: Stdin, room: &mut [u8]) -> usize
     ensures { result ≤ length room.old }
 {

@@ -2,9 +2,10 @@
 use Rattle.std.specs.Prelude.{◌≡◌, List, ℕ, ◌+◌, ◌*◌, ◌≤◌, length}
 use Rattle.basics.specs.laws.Rooms.{Beyond}
 use Rattle.basics.specs.laws.Inlaid.{Inlaid}
-use Rattle.scans.specs.declared.Tally.{Tally}
+use Rattle.scans.specs.Promise.{Tally}
 use Rattle.scans.specs.Occurrences.{occurrences, multiples, first_of}
-use Rattle.pairs.specs.Check.{block, Pair, numbers}
+use Rattle.pairs.specs.declared.run.Run.{Run}
+use Rattle.pairs.specs.Check.{block, probe_size, Pair, numbers}
 
 -- the two work rooms t, e after searches for a probe of m bytes
 pub record Worked (m : ℕ) (t e t' e' : List ℕ) : Type 0 where
@@ -30,3 +31,14 @@ pub record Sought (d : ℕ) (x s : List ℕ) (b : ℕ) (t e : List ℕ) (r : Tal
 pub record Found (qs : List Pair) (k : ℕ) (d : List ℕ) (k' : ℕ) (d' : List ℕ) : Type 0 where
   pub number : k' ≡ k + length qs
   pub laid : Inlaid d (4 * k) (numbers qs) d'
+
+-- two states of a check: the same log, its count and the same draws, and the same rooms
+abbrev pub Same : Run → Run → Type 0
+Same u v = (v.log.now ≡ u.log.now) × (v.count ≡ u.count) × (v.p ≡ u.p) × (v.tables.ghost_name ≡ u.tables.ghost_name) × (v.memory.ghost_name ≡ u.memory.ghost_name) × (v.res.ghost_name ≡ u.res.ghost_name)
+
+-- a check goes on from u to v: it finds the pairs qs, and n owners more are unprobed
+pub record Onward (qs : List Pair) (n : ℕ) (u v : Run) : Type 0 where
+  pub same : Same u v
+  pub worked : Worked (probe_size u.p) u.tables.now u.memory.now v.tables.now v.memory.now
+  pub found : Found qs u.pairs u.res.now v.pairs v.res.now
+  pub unprobed : v.unprobed ≡ u.unprobed + n

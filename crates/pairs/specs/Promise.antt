@@ -1,16 +1,29 @@
 -- What the check promises of its answer and its rooms, on success and on refusal; and that equal inputs give equal outcomes. Assumes nothing.
-use Rattle.std.specs.Prelude.{◌≡◌, List, ℕ, zero, suc, length, replicate}
+use Rattle.std.specs.Prelude.{◌≡◌, Result, Ok, Err, List, ℕ, zero, suc, length, replicate}
+use Rattle.basics.specs.declared.refusal.Fault.{Fault}
+use Rattle.basics.specs.Refusal.{number_of, Cause}
 use Rattle.basics.specs.Rooms.{room_after}
-use Rattle.drawlog.specs.declared.Cause.{Cause}
 use Rattle.drawlog.specs.Log.{draw_size, count}
 use Rattle.drawlog.specs.Promise.{tested_of}
-use Rattle.pairs.specs.declared.Checked.{Checked}
+use Rattle.pairs.specs.declared.Checked.{Checked as Found}
 use Rattle.pairs.specs.Check.{probe_size, Pair, pairs, unprobed, numbers}
 use Rattle.pairs.specs.Refusal.{table_size, cause_of}
 
 -- an offset counts where a draw begins
 abbrev pub step : ℕ
 step = draw_size
+
+-- What the check answers: its refusal (0: none) with its entry number, and the number of pairs and of unprobed owners, both 0 on refusal.
+pub record Checked : Type 0 where
+  pub refusal : ℕ
+  pub entry : ℕ
+  pub pairs : ℕ
+  pub unprobed : ℕ
+
+-- what the code gives, read as that
+abbrev pub checked_seen : Result Found Fault → Checked
+checked_seen (Ok c) = record { refusal = 0; entry = 0; pairs = c.pairs; unprobed = c.unprobed }
+checked_seen (Err f) = record { refusal = number_of f.refusal; entry = f.entry; pairs = 0; unprobed = 0 }
 
 -- the answer beside this refusal (0: none) and its entry number: the number of pairs and of unprobed owners
 unfoldable pub checked_of : ℕ → ℕ → List Pair → ℕ → Checked

@@ -1,7 +1,7 @@
 -- The refusals that the check can meet: those of the log test, then 20, 4 and 5. Assumes nothing.
 use Rattle.std.specs.Prelude.{Bool, cond, not, ◌&&◌, ◌||◌, ℕ, ◌*◌, ◌-◌, eqb, leb, ltb}
-use Rattle.drawlog.specs.declared.Cause.{Cause}
-use Rattle.drawlog.specs.declared.Tested.{Tested}
+use Rattle.basics.specs.Refusal.{Cause}
+use Rattle.drawlog.specs.Promise.{Tested}
 use Rattle.pairs.specs.Check.{probe_size}
 
 -- the most draws of a probe

@@ -12,3 +12,5 @@ pub mod Inside
 pub mod Refusal
 -- from what was found to what the check promises
 pub mod Promise
+-- equal inputs, equal outcomes
+pub mod Determined

@@ -2,14 +2,13 @@
 use Rattle.std.specs.Prelude.{◌≡◌, refl, List, map, ℕ, zero, suc, ◌+◌, ◌-◌, ◌*◌, ◌≤◌, ◌<◌, length}
 use Rattle.std.proofs.Common.{sym, ap, ◌∙◌, zero-le, arith}
 use Rattle.std.proofs.lemmas.List.{length-map}
-use Rattle.scans.specs.declared.Answer.{Answer}
 use Rattle.scans.specs.Trace.{Window, comparisons, positions, visit}
 use Rattle.scans.specs.Plain.{plain_scan, plain}
 use Rattle.scans.specs.Remember.{remembering}
 use Rattle.scans.specs.Occurrences.{occurrences, first_of}
 use Rattle.scans.specs.Closeness.{Truly, closest, closest_start}
 use Rattle.scans.specs.Refusal.{refusal_of}
-use Rattle.scans.specs.Promise.{answer_of, reported, Plainly, Rememberingly}
+use Rattle.scans.specs.Promise.{Answer, answer_of, reported, Plainly, Rememberingly}
 use Rattle.scans.specs.laws.Refusal.{accepted}
 use Rattle.scans.specs.laws.Ending.{Sound}
 use Rattle.scans.specs.laws.Free.{free_le}

@@ -1,7 +1,9 @@
 -- Words of the private functions' contracts.
 -- where a text position stands in the memory room
 pub mod Slots
--- a window's end as a number; what the window functions take and give
+-- what always holds of that into which a scan looks
+pub mod Ready
+-- how a window ends; what the window functions take and give
 pub mod Window
 -- what is counted of the occurrences while a scan runs
 pub mod Hits

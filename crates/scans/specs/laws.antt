@@ -22,3 +22,5 @@ pub mod Passes
 pub mod Loops
 -- from what a search gives to what its call promises
 pub mod Search
+-- equal inputs, equal outcomes
+pub mod Determined

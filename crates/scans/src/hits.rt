@@ -5,13 +5,19 @@ ghost use Rattle.scans.specs.inside.Window.{end_of};
 ghost use Rattle.scans.specs.inside.Hits.{counted_by, noted_by};
 
 // Notes the window at j, if it matched and j is a multiple of the step: how many places are noted then, of which `hits`
-// were before.
-pub(crate) fn note(room: &mut [u32], hits: usize, step: usize, j: usize, left: usize) -> usize
+// were before. The room is the caller's and may be too short for them, so their number is kept beside it.
+pub(crate) fn note(
+    room: &mut [u32],
+    hits: usize,
+    step: usize,
+    j: usize,
+    stop: Option<usize>,
+) -> usize
     requires { (j < 4294967296) × (hits < 4294967296) }
-    ensures hits { result ≡ counted_by step j (end_of left) hits }
-    ensures room { room.new ≡ noted_by step j (end_of left) hits room.old }
+    ensures hits { result ≡ counted_by step j (end_of stop) hits }
+    ensures room { room.new ≡ noted_by step j (end_of stop) hits room.old }
 {
-    if left != 0 {
+    if stop.is_some() {
         return hits;
     }
     if !on_step(step, j) {

@@ -21,44 +21,37 @@
 // And as we have it, without any change to the steps or to their number:
 // 4. Only the last m positions are remembered, in a room of m entries that is cleared once before and once after: an
 //    entry carries the position for which it was written (`memory`).
-// 5. Above the last position where a length was remembered nothing is looked up (`windows::remembering`).
-// 6. The last byte of a window, of which nothing can be remembered, is compared by itself (`windows::last`).
+// 5. Above the last position where a length was remembered nothing is looked up (`other_bytes`).
+// 6. The last byte of a window, of which nothing can be remembered, is compared by itself (`last_byte`).
 #![tactic(auto)]
 
-ghost use Rattle.std.specs.Prelude.{◌≡◌};
+ghost use Rattle.std.specs.Prelude.{◌≡◌, ◌<◌, IfOk, IfSome};
+ghost use Rattle.basics.specs.Refusal.{refusal_seen};
 ghost use Rattle.scans.specs.Refusal.{refusal_of};
-ghost use Rattle.scans.specs.Promise.{Plainly, Rememberingly, Aligning};
-ghost use Rattle.scans.specs.inside.Search.{refused_by, answer_by, tally_by, Searching, Preparing};
+ghost use Rattle.scans.specs.Promise.{answer_seen, tally_seen, Plainly, Rememberingly, Aligning};
+ghost use Rattle.scans.specs.inside.Search.{Searching, Preparing};
 
 mod closeness; // closeness.rt: the closest window
 mod hits; // hits.rt: the occurrences, noted and counted
 mod loops; // loops.rt: from window to window
 mod memory; // memory.rt: the remembered lengths
 mod moves; // moves.rt: from one window to the next
+mod scan; // scan.rt: what a scan looks into, and a window of it
 mod windows; // windows.rt: one window, where bytes are compared
 
-use closeness::Closest;
+use basics::Refusal;
 use loops::Run;
+use scan::Scan;
 
 // The most bytes that a probe, and that a stream, may have.
 pub const LONGEST: usize = tables::LONGEST;
 
 pub const LARGEST: usize = 16777216;
 
-// The refusal numbers; 0 says that nothing was refused.
-pub const PROBE_EMPTY: u32 = tables::PROBE_EMPTY;
-
-pub const PROBE_LONG: u32 = tables::PROBE_LONG;
-
-pub const STREAM_LARGE: u32 = 3;
-
-pub const ROOM_SHORT: u32 = tables::ROOM_SHORT;
-
 // What a search answers. The last two say how close it came: the most trailing bytes of the probe that equal the stream in
-// a window visited, and where the first window with so many starts. On refusal every other number is 0.
-#[derive(Clone, Copy)]
+// a window visited, and where the first window with so many starts.
+#[derive(Clone, Copy, Debug, PartialEq, Eq)]
 pub struct Answer {
-    pub refusal: u32,
     pub occurrences: u64,
     pub written: u64,
     pub windows: u64,
@@ -67,41 +60,34 @@ pub struct Answer {
     pub closest_at: u64,
 }
 
-// The occurrences at multiples of a step: their number, and the first of them. On refusal, and where there is none, 0.
-#[derive(Drop)]
+// The occurrences at multiples of a step, where there are any: their number, and the first of them.
+#[derive(Clone, Copy, Debug, PartialEq, Eq)]
 pub struct Tally {
-    pub refusal: u32,
     pub number: u64,
     pub first: u64,
 }
 
-// The tables that a search needs beside its rooms, or the refusal.
-#[derive(Drop)]
-struct Prepared {
-    refusal: u32,
-    occ: [u32; 256],
-}
-
-// A search's refusal, or its run.
-#[derive(Drop)]
-struct Searched {
-    refusal: u32,
-    run: Run,
-}
-
-// Searches the stream for the probe by the plain scan. It has no memory room, so none is too short.
-pub fn plain(probe: &[u8], stream: &[u8], tables: &mut [u16], positions: &mut [u32]) -> Answer
-    ensures { Plainly probe.now stream.now tables.old positions.old result
+// Searches the stream for the probe by the plain scan. It has no memory room, so none is too short. Probe, stream and rooms
+// stand side by side in the searches: so C lends them to `plain` and `remember`, and a struct of them for `aligned` alone would
+// be no plainer.
+pub fn plain(
+    probe: &[u8],
+    stream: &[u8],
+    tables: &mut [u16],
+    positions: &mut [u32],
+) -> Result<Answer, Refusal>
+    ensures { Plainly probe.now stream.now tables.old positions.old (answer_seen result)
         tables.new positions.new }
 {
-    let prepared = prepare(probe, stream.len(), probe.len(), tables);
-    let refusal = prepared.refusal;
-    if refusal != 0 {
-        return answer_of(refused(refusal), positions.len());
-    }
-    let occ = prepared.occ;
-    let run = loops::plainly(probe, stream, tables, &occ, positions);
-    answer_of(Searched { refusal: 0, run }, positions.len())
+    let occ = prepare(probe, stream.len(), probe.len(), tables)?;
+    let scan = Scan {
+        probe,
+        stream,
+        tables,
+        occ: &occ,
+    };
+    let run = scan.plainly(positions);
+    Ok(run.answer(positions.len()))
 }
 
 // Searches the stream for the probe by the remembering scan.
@@ -111,28 +97,29 @@ pub fn remember(
     tables: &mut [u16],
     memory: &mut [u32],
     positions: &mut [u32],
-) -> Answer
-    ensures { Rememberingly probe.now stream.now tables.old memory.old positions.old result
+) -> Result<Answer, Refusal>
+    ensures { Rememberingly probe.now stream.now tables.old memory.old positions.old (answer_seen result)
         tables.new memory.new positions.new }
 {
-    let s = search(probe, stream, tables, memory, positions, 1);
-    answer_of(s, positions.len())
+    let run = search(probe, stream, tables, memory, positions, 1)?;
+    Ok(run.answer(positions.len()))
 }
 
-// Searches the stream as `remember` does, for the occurrences at multiples of the step: their number and the first.
+// Searches the stream as `remember` does, for the occurrences at multiples of the step.
 pub fn aligned(
     probe: &[u8],
     stream: &[u8],
     tables: &mut [u16],
     memory: &mut [u32],
     step: usize,
-) -> Tally
-    ensures { Aligning probe.now stream.now tables.old memory.old step result
+) -> Result<Option<Tally>, Refusal>
+    ensures told { Aligning probe.now stream.now tables.old memory.old step (tally_seen result)
         tables.new memory.new }
+    ensures some { IfOk result (λ o. IfSome o (λ t. 0 < t.number)) }
 {
     let mut first = [0u32; 1];
-    let s = search(probe, stream, tables, memory, &mut first, step);
-    tally_of(s, first[0])
+    let run = search(probe, stream, tables, memory, &mut first, step)?;
+    Ok(run.tally(first[0]))
 }
 
 // The remembering search, which notes the places at multiples of the step: what `remember` and `aligned` have in common.
@@ -143,100 +130,50 @@ fn search(
     memory: &mut [u32],
     positions: &mut [u32],
     step: usize,
-) -> Searched
+) -> Result<Run, Refusal>
     ensures { Searching probe.now stream.now tables.old memory.old positions.old step result
         tables.new memory.new positions.new }
 {
-    let prepared = prepare(probe, stream.len(), memory.len(), tables);
-    let refusal = prepared.refusal;
-    if refusal != 0 {
-        return refused(refusal);
-    }
-    let occ = prepared.occ;
-    let run = loops::remembering(probe, stream, tables, &occ, memory, positions, step);
-    Searched { refusal: 0, run }
+    let occ = prepare(probe, stream.len(), memory.len(), tables)?;
+    let scan = Scan {
+        probe,
+        stream,
+        tables,
+        occ: &occ,
+    };
+    Ok(scan.remembering(memory, positions, step))
 }
 
-// Looks for a cause to refuse, and writes the tables where there is none. The stream has n bytes, the memory room e entries.
-fn prepare(probe: &[u8], n: usize, e: usize, tables: &mut [u16]) -> Prepared
+// Looks for a cause to refuse, and writes the tables where there is none: the occurrence table is what it gives. The stream
+// has n bytes, the memory room e entries.
+fn prepare(probe: &[u8], n: usize, e: usize, tables: &mut [u16]) -> Result<[u32; 256], Refusal>
     ensures { Preparing probe.now n e tables.old result tables.new }
 {
-    let refusal = causes(probe.len(), n, tables.len(), e);
-    if refusal != 0 {
-        return Prepared {
-            refusal,
-            occ: [0u32; 256],
-        };
-    }
-    tables::both(probe, tables);
-    let found = tables::occurrence(probe);
-    let occ = found.table;
-    Prepared { refusal: 0, occ }
+    causes(probe.len(), n, tables.len(), e)?;
+    tables::both(probe, tables)?;
+    tables::occurrence(probe)
 }
 
 // The first cause to refuse a probe of m bytes, a stream of n, a room of t numbers for both tables, and a memory room of e
-// entries; 0 where there is none.
-fn causes(m: usize, n: usize, t: usize, e: usize) -> u32
-    ensures { result ≡ refusal_of m n t e }
+// entries. The tables test 1, 2 and 4 too; here 3 stands between, so the order is this function's own.
+fn causes(m: usize, n: usize, t: usize, e: usize) -> Result<(), Refusal>
+    ensures { refusal_seen result ≡ refusal_of m n t e }
 {
     if m == 0 {
-        return PROBE_EMPTY;
+        return Err(Refusal::ProbeEmpty);
     }
     if LONGEST < m {
-        return PROBE_LONG;
+        return Err(Refusal::ProbeLong);
     }
     if LARGEST < n {
-        return STREAM_LARGE;
+        return Err(Refusal::StreamLarge);
     }
     let paired = 2 * m;
     if t < paired {
-        return ROOM_SHORT;
+        return Err(Refusal::RoomShort);
     }
     if e < m {
-        return ROOM_SHORT;
+        return Err(Refusal::RoomShort);
     }
-    0
-}
-
-// A refusal, beside which every number is 0.
-fn refused(refusal: u32) -> Searched
-    ensures { result ≡ refused_by refusal }
-{
-    let run = Run {
-        hits: 0,
-        windows: 0,
-        comparisons: 0,
-        closest: Closest { equal: 0, at: 0 },
-    };
-    Searched { refusal, run }
-}
-
-// The six numbers of a search whose position room has n entries.
-fn answer_of(s: Searched, n: usize) -> Answer
-    ensures { result ≡ answer_by s n }
-{
-    let run = s.run;
-    let written = basics::smaller(run.hits, n);
-    let closest = run.closest;
-    Answer {
-        refusal: s.refusal,
-        occurrences: run.hits as u64,
-        written: written as u64,
-        windows: run.windows,
-        comparisons: run.comparisons,
-        closest: closest.equal as u64,
-        closest_at: closest.at as u64,
-    }
-}
-
-// The number of the places noted, and the first of them.
-fn tally_of(s: Searched, first: u32) -> Tally
-    ensures { result ≡ tally_by s first }
-{
-    let run = s.run;
-    Tally {
-        refusal: s.refusal,
-        number: run.hits as u64,
-        first: first as u64,
-    }
+    Ok(())
 }

@@ -19,3 +19,7 @@ pub mod Figure11
 pub mod Seen
 -- what the calls give where no cause refuses them
 pub mod Promise
+-- pairs that stay in their room, and what is there when a table is filled
+pub mod Inside
+-- equal inputs, equal outcomes
+pub mod Determined

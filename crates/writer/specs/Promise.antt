@@ -1,10 +1,21 @@
 -- What the writer promises of its answer and of the whole room, on success and on refusal; and that equal inputs give equal outcomes. Assumes nothing.
-use Rattle.std.specs.Prelude.{◌≡◌, List, ℕ, zero, suc, length}
+use Rattle.std.specs.Prelude.{◌≡◌, List, ℕ, zero, suc, length, Result, Ok, Err}
 use Rattle.basics.specs.Rooms.{room_after}
-use Rattle.drawlog.specs.declared.Cause.{Cause}
-use Rattle.writer.specs.declared.Written.{Written}
+use Rattle.basics.specs.Refusal.{Cause, number_of}
+use Rattle.basics.specs.declared.refusal.Fault.{Fault}
 use Rattle.writer.specs.Made.{made}
 use Rattle.writer.specs.Refusal.{cause_of}
+
+-- `write`'s answer: its refusal (0: none) with the entry at fault, and the log's length, which is 0 beside a refusal
+pub record Written : Type 0 where
+  pub refusal : ℕ
+  pub entry : ℕ
+  pub length : ℕ
+
+-- the answer of an outcome
+abbrev pub written_seen : Result ℕ Fault → Written
+written_seen (Ok size) = record { refusal = 0; entry = 0; length = size }
+written_seen (Err f) = record { refusal = number_of f.refusal; entry = f.entry; length = 0 }
 
 -- the answer beside this refusal (0: none) and its entry number: the log's length
 unfoldable pub written_of : ℕ → ℕ → ℕ → Written

@@ -2,7 +2,7 @@
 use Rattle.std.specs.Prelude.{Bool, cond, not, ◌&&◌, List, ℕ, ◌%◌, eqb, leb, ltb, length}
 use Rattle.basics.specs.Lists.{at, rising}
 use Rattle.basics.specs.Search.{first_caused}
-use Rattle.drawlog.specs.declared.Cause.{Cause}
+use Rattle.basics.specs.Refusal.{Cause}
 use Rattle.drawlog.specs.Log.{longest, most, draw_size}
 use Rattle.writer.specs.Made.{sum_to, size_of}
 

@@ -3,22 +3,19 @@ use Rattle.std.specs.Prelude.{◌≡◌, refl, true, false, List, ℕ, ◌≤◌
 use Rattle.std.proofs.Common.{sym, ap, ◌∙◌, inl, ⊎_elim, arith, lt-ltb, le-ltb}
 use Rattle.std.specs.Borrow.{Bor}
 use Rattle.basics.specs.Lists.{at}
+use Rattle.basics.specs.Refusal.{Cause}
 use Rattle.basics.specs.Rooms.{front}
 use Rattle.basics.specs.laws.Lists.{Bytes}
 use Rattle.basics.specs.laws.Tests.{equal_or_not, le_or_lt}
-use Rattle.drawlog.specs.declared.Cause.{Cause}
-use Rattle.drawlog.specs.declared.Tested.{Tested}
-use Rattle.drawlog.specs.declared.Listed.{Listed}
 use Rattle.drawlog.specs.Log.{count}
 use Rattle.drawlog.specs.Refusal as log
-use Rattle.drawlog.specs.Promise.{tested_of, seek, found_of, listed_of, BlockOf, BlockAt}
+use Rattle.drawlog.specs.Promise.{Tested, Listed, tested_of, seek, found_of, listed_of, BlockOf, BlockAt}
 use Rattle.drawlog.specs.Reader.{opened, left, Handed, ahead, skipped}
 use Rattle.drawlog.specs.laws.Refusal as law
 use Rattle.drawlog.specs.laws.Promise.{tested_yes, tested_no, found_none, listed_at, listed_none, find_listed, seek_is}
 use Rattle.drawlog.specs.laws.Reader.{reads_block}
-use Rattle.writer.specs.declared.Written.{Written}
 use Rattle.writer.specs.Made.{sum_to, made}
-use Rattle.writer.specs.Promise.{Writing}
+use Rattle.writer.specs.Promise.{Written, Writing}
 use Rattle.writer.specs.Contents.{blocks_of, ids_of, lengths_of}
 use Rattle.writer.specs.Inside.{Fit}
 use Rattle.writer.specs.laws.Promise.{written_fit, written_log, written_done}

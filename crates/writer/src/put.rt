@@ -1,90 +1,86 @@
-// The parts of a log. Each function puts its bytes from a place on and answers the place after them, where the next one goes on.
-ghost use Rattle.std.specs.Prelude.{◌≡◌, ◌++◌, ◌+◌, ◌*◌, ◌%◌, ◌≤◌, length};
+// The parts of a log, put into a room one after another, each where the last one ended.
+ghost use Rattle.std.specs.Prelude.{◌≡◌, ◌++◌, ◌+◌, ◌*◌, ◌≤◌, length};
 ghost use Rattle.drawlog.specs.Log.{entry_size, trailer_size, longest};
 ghost use Rattle.drawlog.specs.Number.{bytes_of};
 ghost use Rattle.writer.specs.Made.{sum_to, directory_bytes, trailer_bytes, made};
-ghost use Rattle.writer.specs.Inside.{Fit, Put};
+ghost use Rattle.writer.specs.Inside.{Fit, Put, Puts};
 
+use crate::refusal::Replicates;
 use drawlog::Log;
 
-// The blocks, the directory, the trailer.
-pub(crate) fn log(room: &mut [u8], blocks: &[u8], ids: &[u32], lengths: &[u32]) -> usize
-    requires { Fit blocks.now ids.now lengths.now (length room.old) }
-    ensures { Put room.old 0 (made blocks.now ids.now lengths.now) result room.new }
+// Puts the log of these replicates to the front of a room that holds it. Answers its length.
+pub(crate) fn log(room: &mut [u8], replicates: Replicates) -> usize
+    requires { Fit replicates.blocks.now replicates.ids.now replicates.lengths.now (length room.old) }
+    ensures { Put room.old 0 (made replicates.entry.blocks.now replicates.entry.ids.now replicates.entry.lengths.now) result room.new }
 {
-    let start = bytes(room, 0, blocks);
-    let end = directory(room, start, ids, lengths);
-    trailer(room, end, start as u32, ids.len() as u32)
+    let mut cursor = Cursor { room, place: 0 };
+    cursor.bytes(replicates.blocks);
+    let start = cursor.place;
+    cursor.directory(replicates);
+    cursor.trailer(start as u32, replicates.ids.len() as u32);
+    cursor.place
 }
 
-// The entries, one after another. Each block starts where the previous one ended.
-fn directory(room: &mut [u8], at: usize, ids: &[u32], lengths: &[u32]) -> usize
-    requires ids_len { (length ids.now ≡ length lengths.now) × (sum_to lengths.now (length ids.now) ≤ longest) }
-    requires ids_in_bounds { at + entry_size * length ids.now ≤ length room.old }
-    ensures { Put room.old at (directory_bytes ids.now lengths.now (length ids.now)) result room.new }
-{
-    let mut place = at;
-    let mut start = 0;
-    let mut k = 0;
-    while k < ids.len() {
-        let id = ids[k];
-        let size = lengths[k];
-        place = entry(room, place, id, start, size);
-        start += size;
-        k += 1;
+// A room, and the place in it where the next part goes. No `lines::Text`: that cuts off what does not fit, and this is lent
+// a room that holds all, which its promises say.
+#[derive(Drop)]
+struct Cursor<'a> {
+    room: &'a mut [u8],
+    place: usize,
+}
+
+impl Cursor<'_> {
+    // The entries, one after another. Each block starts where the previous one ended.
+    fn directory(&mut self, replicates: Replicates)
+        requires short { sum_to replicates.lengths.now (length replicates.ids.now) ≤ longest }
+        requires held { self.old.place + entry_size * length replicates.ids.now ≤ length self.old.room.now }
+        ensures { Puts self.old (directory_bytes replicates.entry.ids.now replicates.entry.lengths.now (length replicates.entry.ids.now)) self.new }
+    {
+        let mut start = 0;
+        for (id, size) in replicates.ids.iter().zip(replicates.lengths) {
+            self.entry(*id, start, *size);
+            start += *size;
+        }
     }
-    place
-}
 
-// An entry: id, start, length.
-fn entry(room: &mut [u8], at: usize, id: u32, start: u32, size: u32) -> usize
-    requires { at + entry_size ≤ length room.old }
-    ensures { Put room.old at (bytes_of id ++ (bytes_of start ++ bytes_of size)) result room.new }
-{
-    let second = number(room, at, id);
-    let third = number(room, second, start);
-    number(room, third, size)
-}
-
-// The trailer: directory start, count, mark.
-fn trailer(room: &mut [u8], at: usize, directory: u32, count: u32) -> usize
-    requires { at + trailer_size ≤ length room.old }
-    ensures { Put room.old at (trailer_bytes directory count) result room.new }
-{
-    let second = number(room, at, directory);
-    let third = number(room, second, count);
-    let mark = Log::MARK;
-    bytes(room, third, &mark)
-}
-
-// A 32-bit number, low byte first.
-fn number(room: &mut [u8], at: usize, n: u32) -> usize
-    requires { at + 4 ≤ length room.old }
-    ensures { Put room.old at (bytes_of n) result room.new }
-{
-    let second = n / Log::BYTE;
-    let third = second / Log::BYTE;
-    let fourth = third / Log::BYTE;
-    let word = [low(n), low(second), low(third), low(fourth)];
-    bytes(room, at, &word)
-}
-
-// The low byte of a number.
-fn low(n: u32) -> u8
-    ensures { result ≡ n % 256 }
-{
-    (n % Log::BYTE) as u8
-}
-
-// The bytes w.
-fn bytes(room: &mut [u8], at: usize, w: &[u8]) -> usize
-    requires { at + length w.now ≤ length room.old }
-    ensures { Put room.old at w.now result room.new }
-{
-    let mut i = 0;
-    while i < w.len() {
-        room[at + i] = w[i];
-        i += 1;
+    // An entry: id, start, length.
+    #[tactic(auto, using(crate::specs::laws::Put::puts_number))]
+    fn entry(&mut self, id: u32, start: u32, size: u32)
+        requires { self.old.place + entry_size ≤ length self.old.room.now }
+        ensures { Puts self.old (bytes_of id ++ (bytes_of start ++ bytes_of size)) self.new }
+    {
+        self.number(id);
+        self.number(start);
+        self.number(size);
     }
-    at + i
+
+    // The trailer: directory start, count, mark.
+    #[tactic(auto, using(crate::specs::laws::Put::puts_number))]
+    fn trailer(&mut self, directory: u32, count: u32)
+        requires { self.old.place + trailer_size ≤ length self.old.room.now }
+        ensures { Puts self.old (trailer_bytes directory count) self.new }
+    {
+        self.number(directory);
+        self.number(count);
+        self.bytes(&Log::MARK);
+    }
+
+    // A 32-bit number, low byte first.
+    #[tactic(auto, using(crate::specs::laws::Put::word_bytes))]
+    fn number(&mut self, n: u32)
+        requires { self.old.place + 4 ≤ length self.old.room.now }
+        ensures { Puts self.old (bytes_of n) self.new }
+    {
+        self.bytes(&n.to_le_bytes());
+    }
+
+    // The bytes w.
+    fn bytes(&mut self, w: &[u8])
+        requires { self.old.place + length w.now ≤ length self.old.room.now }
+        ensures { Puts self.old w.now self.new }
+    {
+        let end = self.place + w.len();
+        self.room[self.place..end].copy_from_slice(w);
+        self.place = end;
+    }
 }

@@ -1,19 +1,20 @@
 -- `beside` meets its contract: five texts, one after another, of which the first is the folder.
 -- Assumes nothing.
-use Rattle.std.proofs.Common.{sym, ◌≤◌, arith, length, length-take-le}
-use Rattle.lines.specs.Put.{last_place}
-use Rattle.lines.specs.laws.Promise.{laid_then}
+use Rattle.std.proofs.Common.{refl, rules, arith}
+use Rattle.lines.specs.Promise.{Puts}
+use Rattle.lines.specs.laws.Promise.{puts_then, puts_said}
 use Rattle.binding.specs.Beside.{beside_name}
 use Rattle.binding.specs.laws.Beside.{beside_short}
 use Rattle.binding.proofs.beside.Goals as goal
-
-pub slice_bounds-word-end : goal.slice_bounds-word-end
-slice_bounds-word-end c = sym (length-take-le _ _ (omega (arith, c.folder-end.ensures.upper_bound)))
 
 pub returns : goal.returns
 unfolding beside_name
 returns c =
     let a = c.args in
-    let fit : length a.out.now ≤ last_place = omega arith in
-    let said = rw c.folder-end.ensures.value at (laid_then fit (laid_then fit (laid_then fit (laid_then fit c.word-p1.ensures c.word-p2.ensures) c.number-p3.ensures) c.byte-p4.ensures) c.number.ensures) in
-    record { text = said; short = beside_short a.log.now a.m a.n (omega (arith, c.ranges.m)) (omega (arith, c.ranges.n)) said }
+    let b = c.new-text.ensures in
+    let puts : Puts c.new-text.result (beside_name a.log.now a.m a.n) c.number-2.new.self =
+    rw c.folder.ensures at (puts_then (puts_then (puts_then (puts_then c.word.ensures c.word-2.ensures) c.number.ensures) c.byte.ensures) c.number-2.ensures) in
+    record {
+      text = puts_said {t' = c.number-2.new.self} b.room b.place puts c.place.ensures (search rules);
+      short = beside_short a.log.now a.m a.n (omega (arith, c.ranges.m)) (omega (arith, c.ranges.n)) (puts_said b.room b.place puts c.place.ensures refl);
+    }

@@ -1,17 +1,11 @@
-use Rattle.std.proofs.Common.{arith}
-use Rattle.binding.specs.laws.Beside.{seen_none, seen-slash, seen_other, seen_all}
+-- `folder` meets its contract: the folder ends behind the last slash.
+-- Assumes nothing.
+use Rattle.std.proofs.Common.{ℕ, sym, ap, take}
+use Rattle.binding.specs.laws.Beside.{end_behind, end_none}
 use Rattle.binding.proofs.folder.Goals as goal
-use Rattle.binding.proofs.folder.Goals.{then-path-i-eq-SLASH, else-path-i-eq-SLASH}
 
-pub loop-i-init : goal.loop-i-init
-loop-i-init c = seen_none _
+pub returns-in-Some : goal.returns-in-Some
+returns-in-Some c = let s = c.in-Some.ensures in ap (λ (k : ℕ). take k c.args.path.now) (sym (end_behind _ _ s.0 s.1 s.2))
 
-pub loop-i-preserved : goal.loop-i-preserved
-loop-i-preserved c =
-    let i = c.loop-i.invariant in
-    elim c.if-path-i-eq-SLASH.branch [ then-path-i-eq-SLASH w ↦ rw w.end-is (seen-slash i (omega arith) w.if-path-i-eq-SLASH.true) | else-path-i-eq-SLASH w ↦ rw w.end-is (seen_other i (omega arith) w.if-path-i-eq-SLASH.false) ]
-
-pub returns : goal.returns
-returns c =
-    let i = c.loop-i.invariant in
-    record { value = seen_all i (omega arith); upper_bound = omega (arith, i.below, i.inside) }
+pub returns-in-None : goal.returns-in-None
+returns-in-None c = ap (λ (k : ℕ). take k c.args.path.now) (sym (end_none _ c.in-None.ensures))

@@ -1,9 +1,9 @@
 -- Laws of a folder's end, and of a name beside a log. Assumes nothing.
-use Rattle.std.specs.Prelude.{◌≡◌, List, ℕ, suc, ◌+◌, ◌-◌, ◌^◌, ◌≤◌, ◌<◌, length}
+use Rattle.std.specs.Prelude.{◌≡◌, Bool, false, List, ℕ, zero, suc, ◌+◌, ◌-◌, ◌^◌, ◌≤◌, ◌<◌, length}
 use Rattle.std.proofs.Common.{sym, ap, ◌∙◌, add-one, arith, eq-eqb, ne_eqb, length-append, length-take}
 use Rattle.basics.specs.Lists.{at}
 use Rattle.basics.specs.Search.{greatest}
-use Rattle.basics.specs.laws.Search.{greatest-none, greatest_new, greatest_old}
+use Rattle.basics.specs.laws.Search.{greatest-none, greatest_new, greatest_old, greatest_is}
 use Rattle.lines.proofs.Digits.{digits_fit}
 use Rattle.lines.specs.laws.Put.{after_short}
 use Rattle.binding.specs.Beside.{slash, slash_before, folder_end, beside_name}
@@ -40,6 +40,21 @@ seen_other {w} {i} a h e =
 pub seen_all : {w : List ℕ} {i k : ℕ} → Seen w i k → length w ≤ i → k ≡ folder_end w
 unfolding folder_end
 seen_all {w} {i} a h = let e : i ≡ length w = omega (arith, a.inside) in rw e at a.is
+
+-- THE LAST SLASH, found at once
+pub end_behind : (w : List ℕ) (i : ℕ) → i < length w → at w i ≡ slash → ((k : ℕ) → i < k → k < length w → at w k ≡ slash → ⊥) → folder_end w ≡ i + 1
+unfolding folder_end
+end_behind w i h e none =
+    greatest_is (slash_before w) (length w) (i + 1) (omega arith) (eq-eqb (at w (i + 1 - 1)) slash (rw add-one (ap (at w) (back i) ∙ e)))
+    (λ j l u. ne_eqb (at w (j - 1)) slash (none (j - 1) (omega arith) (omega arith)))
+
+none_passes : (p : ℕ → Bool) (n : ℕ) → ((j : ℕ) → 0 < j → j ≤ n → p j ≡ false) → greatest p n ≡ 0
+none_passes p zero h = greatest-none p
+none_passes p (suc n) h = greatest_old p n (h (suc n) (omega arith) (omega arith)) ∙ none_passes p n (λ j l u. h j l (omega arith))
+
+pub end_none : (w : List ℕ) → ((k : ℕ) → k < length w → at w k ≡ slash → ⊥) → folder_end w ≡ 0
+unfolding folder_end
+end_none w none = none_passes (slash_before w) (length w) (λ j l u. ne_eqb (at w (j - 1)) slash (none (j - 1) (omega arith)))
 
 -- THE NAME
 beside_length : (log : List ℕ) (m n : ℕ) → m < 2 ^ 64 → n < 2 ^ 64 → length (beside_name log m n) ≤ longest + length log

@@ -6,8 +6,7 @@ use Rattle.basics.specs.Lists.{at}
 use Rattle.basics.specs.laws.Tests.{bool_case, le_or_lt}
 use Rattle.lines.specs.Digits.{zero_byte, digit_byte, value_on}
 use Rattle.lines.proofs.Digits.{value_none, value-more, value_is, value_grows}
-use Rattle.binding.specs.declared.Id.{Id}
-use Rattle.binding.specs.Ids.{limit, is_digit, all_digits, is_id, id_of}
+use Rattle.binding.specs.Ids.{Id, limit, is_digit, all_digits, is_id, id_of}
 use Rattle.binding.specs.Inside.{none, id_on, next}
 
 -- from the limit on there is no id
@@ -88,6 +87,15 @@ read_empty w e = rw (le-ltb 0 (length w) (omega arith))
 alone : (v : ℕ) → v < limit → id_on v [] ≡ record { good = true; value = v }
 unfolding id_on all_digits
 alone v g = rw (value_none v, lt-ltb v limit g)
+
+-- a byte after which the text can be no id
+pub read_stop : {w : List ℕ} {i v : ℕ} → Read w i v → i < length w → limit ≤ next v (at w i) → id_of w ≡ none
+read_stop {w} {i} {v} a h l =
+    id_some w (omega arith)
+    ∙ a.is
+    ∙ ap (id_on v) (drop-cons w i 0 h)
+    ∙ on_next v (at w i) (drop (suc i) w)
+    ∙ on_limit (next v (at w i)) (drop (suc i) w) l
 
 module _ {w : List ℕ} {i v : ℕ} (a : Read w i v) (h : length w ≤ i) (l : 0 < i) where
   rest : id_of w ≡ id_on v []

@@ -4,10 +4,12 @@ use Rattle.std.proofs.Common.{arith, length-append}
 use Rattle.lines.specs.Line.{numbers_line}
 use Rattle.lines.proofs.Line.{numbers-length}
 use Rattle.lines.specs.laws.Put.{after_short, after_some}
-use Rattle.binding.specs.Said.{name_line, usage_line}
+use Rattle.binding.specs.declared.Message.{Message}
+use Rattle.binding.specs.declared.Message.TheVariants.{Bound, Refused, Unread, Unwritten, BadId, Usage}
+use Rattle.binding.specs.Said.{unread_word, unwritten_word, bad_id_word, name_line, usage_line, text_of}
 use Rattle.binding.specs.Promise.{longest, Said}
 
-name_length : (w name : List ℕ) → length (name_line w name) ≡ 1 + length w + length name
+pub name_length : (w name : List ℕ) → length (name_line w name) ≡ 1 + length w + length name
 unfolding name_line
 name_length w name = simp length-append (omega arith)
 
@@ -25,3 +27,13 @@ module _ {d : List ℕ} {r : ℕ} {d' : List ℕ} where
   pub usage_short : Said usage_line d r d' → r ≤ longest
   unfolding usage_line
   usage_short s = omega (arith, s.answer, after_short 0 usage_line)
+
+-- what is said is a line
+pub text_some : (m : Message) → 0 < length (text_of m)
+unfolding numbers_line usage_line
+text_some (Bound replicates bytes) = simp length-append (omega arith)
+text_some (Refused refusal entry) = simp length-append (omega arith)
+text_some (Unread file) = omega (arith, name_length unread_word file.now)
+text_some (Unwritten log) = omega (arith, name_length unwritten_word log.now)
+text_some (BadId text) = omega (arith, name_length bad_id_word text.now)
+text_some Usage = omega arith

@@ -1,14 +1,15 @@
 -- Equal inputs, equal outcomes: one theorem for each public call, from what it promises. Assumes nothing.
-use Rattle.std.specs.Prelude.{◌≡◌, Bool, List, ℕ}
+use Rattle.std.specs.Prelude.{◌≡◌, Bool, Option, Result, List, ℕ}
 use Rattle.std.proofs.Common.{sym, ap, ◌∙◌}
 use Rattle.std.specs.Borrow.{Bor}
-use Rattle.drawlog.specs.declared.Cause.{Cause}
-use Rattle.drawlog.specs.declared.Tested.{Tested}
-use Rattle.drawlog.specs.declared.Found.{Found}
-use Rattle.drawlog.specs.declared.Listed.{Listed}
-use Rattle.drawlog.specs.declared.reader.Reader.{Reader}
-use Rattle.drawlog.specs.Promise.{tested_of, found_of, listed_of, Stretch, BlockOf, BlockAt}
-use Rattle.drawlog.specs.Reader.{opened, carried, left, Handed, skipped}
+use Rattle.basics.specs.declared.refusal.Fault.{Fault}
+use Rattle.basics.specs.Refusal.{Cause, cause_seen}
+use Rattle.drawlog.specs.declared.layout.Span.{Span}
+use Rattle.drawlog.specs.declared.layout.Entry.{Entry}
+use Rattle.drawlog.specs.declared.reader.Reader as held
+use Rattle.drawlog.specs.Promise.{Tested, Found, Listed, tested_of, tested_seen, found_of, found_seen, listed_of, listed_seen, Stretch, BlockOf, BlockAt}
+use Rattle.drawlog.specs.Reader.{Reader, reader_seen, opened, carried, left, Handed, skipped}
+use Rattle.drawlog.specs.laws.Seen.{cause_same, tested_same, found_same, listed_same, reader_same}
 
 -- CALLS THAT ANSWER A VALUE
 pub test_determined : {s s' : List ℕ} {r r' : Tested} → r ≡ tested_of s → r' ≡ tested_of s' → s ≡ s' → r ≡ r'
@@ -63,3 +64,22 @@ skip_determined n e e' same = e ∙ ap (λ (x : Reader). skipped x n) same ∙ s
 
 pub read_determined : (k : ℕ) {l l' : Bor (List ℕ)} {b b' : Bor (List ℕ)} → Handed (skipped (opened l) k) b → Handed (skipped (opened l') k) b' → l ≡ l' → Alike l l' b b'
 read_determined k w w' same = handed_determined w w' (ap (λ (x : Bor (List ℕ)). skipped (opened x) k) same)
+
+-- THE OUTCOMES THEMSELVES, which the answers tell whole
+pub test_outcome : {s s' : List ℕ} {r r' : Result ℕ Fault} → tested_seen r ≡ tested_of s → tested_seen r' ≡ tested_of s' → s ≡ s' → r ≡ r'
+test_outcome {s} {s'} {r} {r'} e e' same = tested_same r r' (test_determined e e' same)
+
+pub find_outcome : (id : ℕ) {s s' : List ℕ} {r r' : Result Span Fault} → found_seen r ≡ found_of s id → found_seen r' ≡ found_of s' id → s ≡ s' → r ≡ r'
+find_outcome id {s} {s'} {r} {r'} e e' same = found_same r r' (find_determined id e e' same)
+
+pub entry_outcome : (k : ℕ) {s s' : List ℕ} {r r' : Result (Option Entry) Fault} → listed_seen r ≡ listed_of s k → listed_seen r' ≡ listed_of s' k → s ≡ s' → r ≡ r'
+entry_outcome k {s} {s'} {r} {r'} e e' same = listed_same r r' (entry_determined k e e' same)
+
+pub open_outcome : {l l' : Bor (List ℕ)} {r r' : held.Reader} → reader_seen r ≡ opened l → reader_seen r' ≡ opened l' → l ≡ l' → r ≡ r'
+open_outcome {l} {l'} {r} {r'} e e' same = reader_same r r' (open_determined e e' same)
+
+pub refused_outcome : {r r' : held.Reader} {c c' : Result (Unit {0}) Fault} → cause_seen c ≡ carried (reader_seen r) → cause_seen c' ≡ carried (reader_seen r') → r ≡ r' → c ≡ c'
+refused_outcome {r} {r'} {c} {c'} e e' same = cause_same c c' (refused_determined e e' (ap reader_seen same))
+
+pub skip_outcome : (n : ℕ) {r r' : held.Reader} {q q' : held.Reader} → reader_seen q ≡ skipped (reader_seen r) n → reader_seen q' ≡ skipped (reader_seen r') n → r ≡ r' → q ≡ q'
+skip_outcome n {r} {r'} {q} {q'} e e' same = reader_same q q' (skip_determined n e e' (ap reader_seen same))

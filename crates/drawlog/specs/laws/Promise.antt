@@ -5,12 +5,9 @@ use borrow.Author.Tests.{eq-eqb, ne_eqb, eqb-true, lt-ltb, le-ltb}
 use Rattle.basics.specs.laws.Tests.{equal_or_not, le_or_lt}
 use Rattle.basics.specs.laws.Search.{least_is, least_passes}
 use Rattle.drawlog.specs.declared.layout.Log.{Log}
-use Rattle.drawlog.specs.declared.Tested.{Tested}
-use Rattle.drawlog.specs.declared.Listed.{Listed}
-use Rattle.drawlog.specs.declared.Found.{Found}
 use Rattle.drawlog.specs.Log.{count, id_at, start_at, length_at}
 use Rattle.drawlog.specs.Refusal.{cause_of}
-use Rattle.drawlog.specs.Promise.{tested_of, seek, found_of, listed_of}
+use Rattle.drawlog.specs.Promise.{Tested, Listed, Found, tested_of, seek, found_of, listed_of}
 use Rattle.drawlog.specs.laws.Log.{Reaches}
 use Rattle.drawlog.specs.laws.Refusal.{Accepted, accepted_is}
 use Rattle.drawlog.specs.laws.Accepted.{ids_rise}

@@ -3,12 +3,9 @@ use Rattle.std.specs.Prelude.{◌≡◌, refl, false, List, [], ◌∷◌, map, 
 use Rattle.std.proofs.Common.{sym, ap, ◌∙◌, ⊎_elim, arith, lt-ltb, le-ltb, ltb-false}
 use Rattle.std.specs.Borrow.{Bor}
 use Rattle.basics.specs.laws.Tests.{le_or_lt}
-use Rattle.drawlog.specs.declared.reader.Reader.{Reader}
-use Rattle.drawlog.specs.declared.Tested.{Tested}
-use Rattle.drawlog.specs.declared.Listed.{Listed}
 use Rattle.drawlog.specs.Refusal.{cause_of}
-use Rattle.drawlog.specs.Promise.{tested_of, found_of, listed_of, BlockAt}
-use Rattle.drawlog.specs.Reader.{opened, carried, left, Handed, ahead, skipped, stands, handed_out, looked_up, cut}
+use Rattle.drawlog.specs.Promise.{Tested, Listed, tested_of, found_of, listed_of, BlockAt}
+use Rattle.drawlog.specs.Reader.{Reader, opened, carried, left, Handed, ahead, skipped, stands, handed_out, looked_up, cut}
 use Rattle.drawlog.specs.laws.Promise.{tested_no, listed_at, listed_none, find_listed}
 
 -- NONE IS LEFT: then none is left at any later call

@@ -5,7 +5,7 @@ use borrow.Author.Tests.{eq-eqb, ne_eqb, lt-ltb, le-ltb, eqb-true, ltb-false, le
 use Rattle.basics.specs.laws.Tests.{and_true_both, equal_or_not, le_or_lt}
 use Rattle.basics.specs.laws.Causes.{passed, first_caused_is, first_caused_has, none_caused}
 use Rattle.drawlog.specs.declared.layout.Log.{Log}
-use Rattle.drawlog.specs.declared.Cause.{Cause}
+use Rattle.basics.specs.Refusal.{Cause}
 use Rattle.drawlog.specs.Log.{entry_size, trailer_size, longest, most, draw_size, directory, count, marked, log_of, start_at, length_at}
 use Rattle.drawlog.specs.Refusal.{log_cause, rises, due, entry_cause, first_bad, cause_of}
 use Rattle.drawlog.specs.laws.Log.{Reaches}

@@ -1,24 +1,19 @@
-use Rattle.std.proofs.Common.{arith, sym, ◌∙◌, length-set}
-use Rattle.lines.proofs.Spelling.{spelt_none, spelt_room, spelt_more, spelt_all}
+use Rattle.std.proofs.Common.{◌≡◌, ◌%◌, ◌-◌, arith, ap, ◌∙◌, drop, set, take_all, length-drop, length-set}
+use Rattle.lines.specs.Digits.{digit_byte, most_digits}
+use Rattle.lines.proofs.Spelling.{spelt_room, spelt_more, spelt_all}
 use Rattle.lines.proofs.spell.Goals as goal
 
-pub loop-rest-init : goal.loop-rest-init
-loop-rest-init c = spelt_none c.args.n c.args.text.now c.requires
+pub returns-then-rest-lt-BASE : goal.returns-then-rest-lt-BASE
+returns-then-rest-lt-BASE c =
+    let l = c.loop-first in
+    let i = l.invariant.1 in
+    let last : l.rest % 10 ≡ l.rest = omega arith in
+    let whole =
+    take_all (most_digits - (l.first - 1)) (drop (l.first - 1) (set l.text (l.first - 1) c.digit.result)) (simp (length-drop, length-set) (omega (arith, i.size))) in
+    whole ∙ spelt_all i (omega arith) (c.digit.ensures ∙ ap digit_byte last)
 
-pub bounds-text-first : goal.bounds-text-first
-bounds-text-first c = omega (arith, c.loop-rest.invariant.inside)
-
-pub overflow_sub-first-in-loop-rest : goal.overflow_sub-first-in-loop-rest
-overflow_sub-first-in-loop-rest c = spelt_room c.loop-rest.invariant (omega arith) (omega arith)
-
-pub loop-rest-preserved : goal.loop-rest-preserved
-loop-rest-preserved c = let i = c.loop-rest.invariant in spelt_more i (omega arith) (spelt_room i (omega arith) (omega arith)) c.digit.ensures
-
-pub bounds-text-first-2 : goal.bounds-text-first-2
-bounds-text-first-2 c = omega (arith, c.loop-rest.invariant.inside)
-
-pub shape_of-text : goal.shape_of-text
-shape_of-text c = simp length-set (c.loop-rest.invariant.size ∙ sym c.requires)
-
-pub returns : goal.returns
-returns c = let i = c.loop-rest.invariant in (omega (arith, i.inside), spelt_all i (omega arith) c.digit-2.ensures)
+pub loop-first-preserved : goal.loop-first-preserved
+loop-first-preserved c =
+    let i = c.loop-first.invariant.1 in
+    let room = spelt_room i (omega arith) (omega arith) in
+    (omega (arith, room), spelt_more i (omega arith) room c.digit.ensures)

@@ -1,13 +1,10 @@
 -- `head` meets its contract: five texts, one after another.
 -- Assumes nothing.
-use Rattle.std.proofs.Common.{◌≤◌, arith, length}
-use Rattle.lines.specs.Put.{last_place}
-use Rattle.lines.specs.laws.Promise.{laid_then}
+use Rattle.lines.specs.laws.Promise.{puts_then}
 use Rattle.listing.specs.Listing.{head_line}
 use Rattle.listing.proofs.head.Goals as goal
 
 pub returns : goal.returns
 unfolding head_line
 returns c =
-    let fit : length c.args.out.now ≤ last_place = omega arith in
-    laid_then fit (laid_then fit (laid_then fit (laid_then fit c.word-p1.ensures c.figure-p2.ensures) c.word-p3.ensures) c.figure-p4.ensures) c.byte.ensures
+    puts_then (puts_then (puts_then (puts_then c.word.ensures c.figure.ensures) c.word-2.ensures) c.figure-2.ensures) c.byte.ensures

@@ -5,4 +5,4 @@ use Rattle.listing.proofs.refused_line.Goals as goal
 
 pub returns : goal.returns
 unfolding refused_line
-returns c = c.numbers_line.ensures
+returns c = rw c.number.ensures at c.numbers_line.ensures.puts

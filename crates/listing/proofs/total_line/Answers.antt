@@ -5,4 +5,4 @@ use Rattle.listing.proofs.total_line.Goals as goal
 
 pub returns : goal.returns
 unfolding total_line
-returns c = c.numbers_line.ensures
+returns c = c.numbers_line.ensures.puts

@@ -1,19 +1,19 @@
 -- What the check's answer and result room say where its rooms are large enough: no cause but the log test's refuses. Assumes nothing.
-use Rattle.std.specs.Prelude.{◌≡◌, List, ℕ, ◌-◌, ◌*◌, ◌≤◌, length}
+use Rattle.std.specs.Prelude.{◌≡◌, Err, List, ℕ, ◌-◌, ◌*◌, ◌≤◌, length}
 use Rattle.std.proofs.Common.{sym, ap, ◌∙◌, ⊎_elim, mul-le-mul, arith}
 use Rattle.basics.specs.Rooms.{front, Begins}
 use Rattle.basics.specs.laws.Rooms.{begins_front}
 use Rattle.basics.specs.laws.Tests.{equal_or_not}
-use Rattle.drawlog.specs.declared.Cause.{Cause}
-use Rattle.drawlog.specs.declared.Tested.{Tested}
+use Rattle.basics.specs.declared.refusal.Fault.{Fault}
+use Rattle.basics.specs.Refusal.{Cause, number_of, fault_seen}
+use Rattle.basics.specs.laws.Refusal.{number_above}
 use Rattle.drawlog.specs.Log.{count}
 use Rattle.drawlog.specs.Refusal.{cause_of}
-use Rattle.drawlog.specs.Promise.{tested_of}
+use Rattle.drawlog.specs.Promise.{Tested, tested_of, tested_seen}
 use Rattle.drawlog.specs.laws.Promise.{tested_yes, tested_no}
-use Rattle.pairs.specs.declared.Checked.{Checked}
 use Rattle.pairs.specs.Check.{pairs, unprobed, numbers}
 use Rattle.pairs.specs.Refusal.{own_cause}
-use Rattle.pairs.specs.Promise.{step, cause, Checking}
+use Rattle.pairs.specs.Promise.{step, Checked, cause, Checking}
 use Rattle.pairs.specs.laws.Promise.{checked_refusal, checked_entry, checked_numbers}
 use Rattle.pairs.specs.laws.Check.{length-numbers, pairs_few, tested_few, tested_count}
 use Rattle.pairs.specs.laws.Refusal.{long_enough, refuses_none, cause_log, cause_own}
@@ -31,6 +31,14 @@ tested_refusal s =
     (λ (z : (cause_of s).refusal ≡ 0). ap (λ (t : Tested). t.refusal) (tested_yes s z) ∙ sym z)
     (λ (n : (cause_of s).refusal ≡ 0 → ⊥). ap (λ (t : Tested). t.refusal) (tested_no s n))
     (equal_or_not (cause_of s).refusal 0)
+
+-- a fault of the log test
+pub tested_cause : (s : List ℕ) (f : Fault) → tested_seen (Err f) ≡ tested_of s → fault_seen f ≡ cause_of s
+tested_cause s f e =
+    let refusal : number_of f.refusal ≡ (cause_of s).refusal = ap (λ (t : Tested). t.refusal) e ∙ tested_refusal s in
+    let entry : f.entry ≡ (cause_of s).entry =
+    ap (λ (t : Tested). t.entry) (e ∙ tested_no s (λ z. omega (arith, number_above f.refusal, refusal, z))) in
+    λ i. record { refusal = refusal i; entry = entry i }
 
 module _ (s t e d : List ℕ) {r : Checked} {t' e' d' : List ℕ} (told : Checking s draws t e d r t' e' d') (lt : length t ≡ 512) (le : length e ≡ 256)
     (ld : length d ≡ 16128) where
@@ -58,15 +66,19 @@ module _ (s t e d : List ℕ) {r : Checked} {t' e' d' : List ℕ} (told : Checki
   refusal_is = answered ∙ cause_is ∙ tested_refusal s
 
   -- ON REFUSAL
-  pub refused_text : (r.refusal ≡ 0 → ⊥) → refused_line r.refusal r.entry ≡ listing s
-  refused_text n =
-      let k : r.entry ≡ (cause_of s).entry =
+  entry_is : (r.refusal ≡ 0 → ⊥) → r.entry ≡ (cause_of s).entry
+  entry_is n =
       ap (λ (r : Checked). r.entry) told.answer
       ∙ checked_entry (cause s draws t e d).refusal (cause s draws t e d).entry (pairs step draws s (count s)) (unprobed draws s (count s)) (λ z. n (answered ∙ z))
       ∙ ap (λ (k : Cause). k.entry)
       (cause_log (tested_of s) draws (length t) (length e) (length d) (λ z. n (answered ∙ cause_is ∙ z)))
-      ∙ ap (λ (t : Tested). t.entry) (tested_no s (λ z. n (refusal_is ∙ z))) in
-      rw (refusal_is, k) (listing_refused s (λ z. n (refusal_is ∙ z)))
+      ∙ ap (λ (t : Tested). t.entry) (tested_no s (λ z. n (refusal_is ∙ z)))
+
+  pub refused_cause : (r.refusal ≡ 0 → ⊥) → record { refusal = r.refusal; entry = r.entry } ≡ cause_of s
+  refused_cause n = λ i. record { refusal = refusal_is i; entry = entry_is n i }
+
+  pub refused_text : (r.refusal ≡ 0 → ⊥) → refused_line r.refusal r.entry ≡ listing s
+  refused_text n = rw (refusal_is, entry_is n) (listing_refused s (λ z. n (refusal_is ∙ z)))
 
   -- ON SUCCESS: q is what the log test answers
   module _ (z : r.refusal ≡ 0) {q : Tested} (is : q ≡ tested_of s) where

@@ -10,9 +10,9 @@ use Rattle.basics.specs.laws.Tests.{bool_case, equal_or_not}
 use Rattle.lines.proofs.Digits.{digits_word}
 use Rattle.lines.proofs.Line.{numbers-length}
 use Rattle.lines.specs.laws.Put.{after_short}
-use Rattle.drawlog.specs.declared.Tested.{Tested}
 use Rattle.drawlog.specs.Log.{count, id_at}
 use Rattle.drawlog.specs.Refusal.{cause_of}
+use Rattle.drawlog.specs.Promise.{Tested}
 use Rattle.drawlog.specs.laws.Log.{id_below}
 use Rattle.drawlog.specs.laws.Refusal.{accepted_is, cause_small}
 use Rattle.drawlog.specs.laws.Promise.{tested_yes}

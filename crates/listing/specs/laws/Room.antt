@@ -74,5 +74,12 @@ owned_of {s} {c} {n} {k} {d} a held h e =
     (owned_is (id_at s a) d ps rs ts (rw split at held.room) (of_bears step draws s a)
     (later-above step draws s all.good a (c - (a + 1)) (omega (arith, held.count, all.number))))
 
+-- the pairs of the owners before it are among them
+pub owned_within : {s : List ℕ} {c n k : ℕ} {d : List ℕ} {a : ℕ} → Holds s c d n → a < c → k ≡ length (pairs step draws s a) → k ≤ n
+owned_within {s} {c} {n} {k} {d} {a} held h e =
+    let ps = pairs step draws s a in
+    let rest = pairs_of step draws s a ++ later step draws s (a + 1) (c - (a + 1)) in
+    omega (arith, held.number, ap length (pairs_split step draws s a c h), length-append ps rest)
+
 pub holds_room : {s : List ℕ} {c n : ℕ} {d : List ℕ} → Holds s c d n → 4 * n ≤ length d
 holds_room {s} {c} held = omega (arith, held.number, held.room.reaches, length-numbers (pairs step draws s c))

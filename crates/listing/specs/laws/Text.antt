@@ -1,16 +1,17 @@
 -- The text, pair after pair and owner after owner. Assumes nothing.
-use Rattle.std.specs.Prelude.{◌≡◌, List, [], ◌∷◌, ◌++◌, ℕ, suc, ◌+◌, ◌-◌, ◌*◌, ◌≤◌, ◌<◌, length}
+use Rattle.std.specs.Prelude.{◌≡◌, true, Option, Some, None, IsSome, Result, Ok, Err, IsOk, List, [], ◌∷◌, ◌++◌, ℕ, suc, ◌+◌, ◌-◌, ◌*◌, ◌≤◌, ◌<◌, length}
 use Rattle.std.proofs.Math.Path.{refl}
-use Rattle.std.proofs.Common.{sym, ap, subst, ◌∙◌, arith, eq-eqb, ne_eqb, le-leb, length-append}
+use Rattle.std.proofs.Common.{sym, ap, subst, ◌∙◌, true≢false, arith, rules, eq-eqb, ne_eqb, le-leb, length-append}
 use Rattle.std.proofs.lemmas.Bool.{lt-leb}
 use Rattle.basics.specs.Lists.{at}
 use Rattle.lines.specs.Put.{last_place}
 use Rattle.lines.specs.Promise.{Laid}
 use Rattle.lines.specs.laws.Promise.{laid_none, laid_then, laid_length}
-use Rattle.drawlog.specs.declared.Listed.{Listed}
 use Rattle.drawlog.specs.Log.{count, id_at, length_at}
 use Rattle.drawlog.specs.Refusal.{cause_of}
-use Rattle.drawlog.specs.Promise.{tested_of, listed_of}
+use Rattle.drawlog.specs.declared.layout.Entry.{Entry}
+use Rattle.basics.specs.declared.refusal.Fault.{Fault}
+use Rattle.drawlog.specs.Promise.{tested_of, Listed, listed_of, listed_seen}
 use Rattle.drawlog.specs.laws.Promise.{listed_at}
 use Rattle.pairs.specs.Check.{probe_size, pairs_of, pairs, unprobed}
 use Rattle.pairs.specs.Promise.{step}
@@ -69,6 +70,19 @@ module _ (s : List ℕ) where
 -- the same text by another name
 pub laid_as : {d : List ℕ} {p : ℕ} {w v : List ℕ} {r : ℕ} {d' : List ℕ} → w ≡ v → Laid d p w r d' → Laid d p v r d'
 laid_as {d} {p} {w} {v} {r} {d'} e l = subst (λ (t : List ℕ). Laid d p t r d') e l
+
+-- THE ENTRY OF OWNER a is there
+module _ {s : List ℕ} {c n : ℕ} {d : List ℕ} (held : Holds s c d n) {a : ℕ} (h : a < c) where
+  there-is : (listed_of s a).there ≡ true
+  there-is = ap (λ (l : Listed). l.there) (listed_at s a (omega (arith, h, held.count)))
+
+  pub entry_ok : (r : Result (Option Entry) Fault) → listed_seen r ≡ listed_of s a → IsOk r
+  entry_ok (Ok o) e = search rules
+  entry_ok (Err f) e = absurd (true≢false (sym there-is ∙ ap (λ (l : Listed). l.there) (sym e)))
+
+  pub entry_some : (o : Option Entry) → listed_seen (Ok o) ≡ listed_of s a → IsSome o
+  entry_some (Some v) e = search rules
+  entry_some None e = absurd (true≢false (sym there-is ∙ ap (λ (l : Listed). l.there) (sym e)))
 
 -- OWNER a AT ITS TURN, as the code sees it: l is its entry
 module _ {s : List ℕ} {c n : ℕ} {d : List ℕ} (held : Holds s c d n) {a k : ℕ} (h : a < c) (e : k ≡ length (pairs step draws s a)) {l : Listed} (is : l ≡ listed_of s a) where

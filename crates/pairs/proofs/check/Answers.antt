@@ -1,36 +1,36 @@
 -- `check` meets its contract: a cause refuses and nothing is touched, or the owners' pairs are found and the work rooms cleared.
 -- Assumes nothing.
-use Rattle.std.proofs.Common.{ap, arith}
-use Rattle.drawlog.specs.declared.Tested.{Tested}
-use Rattle.pairs.specs.laws.Check.{tested_few}
-use Rattle.pairs.specs.laws.Promise.{cause_is, refused_is, granted, done_is}
+use Rattle.std.proofs.Common.{rules, refl, arith}
+use Rattle.std.proofs.lemmas.Result.{err_from_is_err_and}
+use Rattle.basics.specs.laws.Refusal.{number_above}
+use Rattle.pairs.specs.laws.Promise.{refused_is, granted, found_few, done_is}
 use Rattle.pairs.proofs.check.Goals as goal
 
-pub causes-cause-requires : goal.causes-cause-requires
-causes-cause-requires c = rw c.test-tested.ensures (tested_few _)
+pub returns-in_err-count : goal.returns-in_err-count
+returns-in_err-count c =
+    let p = err_from_is_err_and c.from_residual.result c.from_residual.ensures.1 in
+    rw (p.1, p.2) (refused_is c.in_err-count.ensures.cause (λ z. omega (arith, number_above c.in_err-count.field-0.0.refusal)))
 
-pub returns-then-refusal-ne0 : goal.returns-then-refusal-ne0
-returns-then-refusal-ne0 c =
-    refused_is (cause_is _ _ _ _ _ c.test-tested.ensures c.causes-cause.ensures) c.if-refusal-ne0.true
+pub invariant_of-run : goal.invariant_of-run
+invariant_of-run c =
+    let a = (granted c.in_ok-count.ensures.cause refl).allowed in
+    record {
+      counted = c.in_ok-count.ensures.count;
+      some = a.some;
+      short = a.short;
+      for_tables = a.tables;
+      for_memory = a.memory;
+      within = omega arith;
+    }
 
-pub owners-done-requires : goal.owners-done-requires
-owners-done-requires c =
-    let g = granted (cause_is _ _ _ _ _ c.test-tested.ensures c.causes-cause.ensures) c.if-refusal-ne0.false in
-    let e = ap (λ (t : Tested). t.count) c.test-tested.ensures in
-    record { count_value = (e, g.allowed.some, g.allowed.short, rw e g.allowed.result); ready = g.ready }
+pub owners-requires-clause-room : goal.owners-requires-clause-room
+owners-requires-clause-room c =
+    rw c.in_ok-count.ensures.count (omega (arith, (granted c.in_ok-count.ensures.cause refl).allowed.result))
 
-pub probe_size-size-requires : goal.probe_size-size-requires
-probe_size-size-requires c =
-    (granted (cause_is _ _ _ _ _ c.test-tested.ensures c.causes-cause.ensures) c.if-refusal-ne0.false).allowed.short
-
-pub overflow_mul-size : goal.overflow_mul-size
-overflow_mul-size c =
-    let g = granted (cause_is _ _ _ _ _ c.test-tested.ensures c.causes-cause.ensures) c.if-refusal-ne0.false in
-    omega (arith, c.probe_size-size.ensures, g.allowed.short)
+pub overflow_cast-found : goal.overflow_cast-found
+overflow_cast-found c = omega (arith, found_few c.in_ok-count.ensures.cause refl refl c.owners.ensures)
 
 pub returns : goal.returns
 returns c =
-    let size = c.probe_size-size in
-    let found = c.owners-done.ensures in
-    done_is (cause_is _ _ _ _ _ c.test-tested.ensures c.causes-cause.ensures) c.if-refusal-ne0.false
-    (ap (λ (t : Tested). t.count) c.test-tested.ensures) size.ensures found.found found.unprobed_value found.worked c.clear16.ensures c.clear.ensures
+    done_is c.in_ok-count.ensures.cause refl refl refl c.owners.ensures c.probe_size-size.ensures
+    (search rules) (search rules) (search rules) (search rules) (search rules)

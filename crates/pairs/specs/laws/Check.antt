@@ -12,11 +12,9 @@ use Rattle.std.proofs.Math.ListN.{length, get_or-append}
 use Rattle.basics.specs.Lists.{at}
 use Rattle.basics.specs.laws.Tests.{bool_case, equal_or_not, le_or_lt}
 use Rattle.scans.specs.Occurrences.{occurrences, multiples, first_of}
-use Rattle.drawlog.specs.declared.Listed.{Listed}
-use Rattle.drawlog.specs.declared.Tested.{Tested}
 use Rattle.drawlog.specs.Log.{count, id_at, length_at}
 use Rattle.drawlog.specs.Refusal.{cause_of}
-use Rattle.drawlog.specs.Promise.{tested_of, listed_of}
+use Rattle.drawlog.specs.Promise.{Tested, tested_of, Listed, listed_of}
 use Rattle.drawlog.specs.laws.Refusal.{accepted_is}
 use Rattle.drawlog.specs.laws.Promise.{tested_yes, tested_no, listed_at, holding}
 use Rattle.drawlog.proofs.Promise.{listed_within}
@@ -116,6 +114,11 @@ module _ (d : ℕ) (x s : List ℕ) (a b : ℕ) where
       → pair_with d x s a b ≡ made d x s a b ∷ []
   unfolding pair_with
   with_some n z = rw (ne_eqb a b n) (pair_some (id_at s a) (id_at s b) (multiples d (occurrences x (block s b))) z)
+
+  -- of the numbers that the code has in hand
+  pub with_found : {i j f n : ℕ} → (a ≡ b → ⊥) → i ≡ id_at s a → j ≡ id_at s b → f ≡ first_of (multiples d (occurrences x (block s b)))
+      → n ≡ length (multiples d (occurrences x (block s b))) → (n ≡ 0 → ⊥) → [] ++ (record { owner = i; other = j; first = f; number = n } ∷ []) ≡ pair_with d x s a b
+  with_found n' ei ej ef en some = rw (ei, ej, ef, en) (sym (with_some n' (λ z. some (en ∙ z))))
 
   at_most_one : (fs : List ℕ) → length (pair_at (id_at s a) (id_at s b) fs) ≤ 1
   unfolding pair_at

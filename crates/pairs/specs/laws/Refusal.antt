@@ -3,8 +3,8 @@ use Rattle.std.specs.Prelude.{◌≡◌, refl, Bool, true, false, cond, not, ◌
 use Rattle.std.proofs.Common.{sym, ap, ◌∙◌, ⊎_elim, true≢false, arith}
 use borrow.Author.Tests.{eq-eqb, ne_eqb, le-leb, lt-leb, lt-ltb, le-ltb, leb-true, ltb-false}
 use Rattle.basics.specs.laws.Tests.{equal_or_not}
-use Rattle.drawlog.specs.declared.Cause.{Cause}
-use Rattle.drawlog.specs.declared.Tested.{Tested}
+use Rattle.basics.specs.Refusal.{Cause}
+use Rattle.drawlog.specs.Promise.{Tested}
 use Rattle.pairs.specs.Check.{probe_size}
 use Rattle.pairs.specs.Refusal.{longest, needed, table_size, too_short, own_cause, cause_of}
 
@@ -46,6 +46,19 @@ module _ (p t e n c : ℕ) where
   pub refuses_none : 1 ≤ p → p ≤ longest → too_short p t e ≡ false → needed c ≤ n → own_cause p t e n c ≡ 0
   unfolding own_cause
   refuses_none a b h k = rw (le-leb 1 p a, le-leb p longest b, h, le-ltb n (needed c) k)
+
+  -- of each room by itself
+  pub refuses_tables : 1 ≤ p → p ≤ longest → t < table_size p → own_cause p t e n c ≡ 4
+  refuses_tables a b h = refuses_work a b (short_tables p t e h)
+
+  pub refuses_memory : 1 ≤ p → p ≤ longest → table_size p ≤ t → e < probe_size p → own_cause p t e n c ≡ 4
+  refuses_memory a b h i = refuses_work a b (short_memory p t e h ∙ lt-ltb e (probe_size p) i)
+
+  pub refuses_numbers : 1 ≤ p → p ≤ longest → table_size p ≤ t → probe_size p ≤ e → n < needed c → own_cause p t e n c ≡ 5
+  refuses_numbers a b h i k = refuses_result a b (long_enough p t e h i) k
+
+  pub refuses_nothing : 1 ≤ p → p ≤ longest → table_size p ≤ t → probe_size p ≤ e → needed c ≤ n → own_cause p t e n c ≡ 0
+  refuses_nothing a b h i k = refuses_none a b (long_enough p t e h i) k
 
 -- what none of them refuses
 pub record Allowed (p t e n c : ℕ) : Type 0 where

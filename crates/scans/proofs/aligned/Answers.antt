@@ -1,7 +1,12 @@
 -- `scans::aligned` meets its contract: the first place stands in the room of one entry.
 -- Assumes nothing.
-use Rattle.scans.specs.laws.Search.{aligned_is}
+use Rattle.scans.specs.laws.Refusal.{handed_on}
+use Rattle.scans.specs.laws.Search.{aligned_is, aligned_refused}
 use Rattle.scans.proofs.aligned.Goals as goal
 
-pub returns : goal.returns
-returns c = aligned_is c.search-s.ensures c.tally_of.ensures
+pub returns-in_err-run-clause-told : goal.returns-in_err-run-clause-told
+returns-in_err-run-clause-told c =
+    rw (handed_on c.from_residual.result c.from_residual.ensures.1) (aligned_refused c.in_err-run.ensures)
+
+pub returns-clause-told : goal.returns-clause-told
+returns-clause-told c = aligned_is c.in_ok-run.ensures c.tally.ensures

@@ -1,64 +1,84 @@
--- What the window functions take and give. A window's end is a number: 0 where it matched, i + 1 where it stopped at i. Assumes nothing.
-use Rattle.std.specs.Prelude.{◌≡◌, List, ℕ, zero, suc, ◌+◌, ◌-◌, ◌≤◌, ◌<◌, length, drop}
+-- What the window functions take and give. A window's end is told by its stop: the index where it stopped, or none where it matched. Assumes nothing.
+use Rattle.std.specs.Prelude.{◌≡◌, List, ℕ, suc, ◌+◌, ◌-◌, ◌≤◌, ◌<◌, Option, Some, None, IfSome, MatchOption, length, drop}
 use Rattle.basics.specs.Lists.{at}
-use Rattle.basics.specs.Rooms.{Begins}
-use Rattle.tables.specs.Refusal.{longest}
-use Rattle.tables.specs.Both.{both_tables}
-use Rattle.tables.specs.Occurrence.{occurrence_table}
-use Rattle.scans.specs.declared.windows.Seen.{Seen}
+use Rattle.scans.specs.declared.scan.Window.{Window}
 use Rattle.scans.specs.declared.windows.Passed.{Passed}
 use Rattle.scans.specs.Trace.{End, matched, stopped, Pass}
-use Rattle.scans.specs.Remember.{remember}
-use Rattle.scans.specs.Refusal.{largest}
-use Rattle.scans.specs.inside.Slots.{recalled}
+use Rattle.scans.specs.Remember.{mem_from, remember}
+use Rattle.scans.specs.inside.Slots.{recalled, Stands}
 
+-- the bytes of a window
+abbrev pub size : Window → ℕ
+size w = length w.scan.probe.now
+
+-- its start has the slot s of the memory room
+abbrev pub Starts : Window → ℕ → Type 0
+Starts w s = Stands (size w) w.at (record { at = w.at; slot = s })
+
+-- the remembering pass over it, by the memory room, from index k − 1 down
+abbrev pub pass_down : Window → List ℕ → ℕ → Pass
+pass_down w mem k = mem_from w.scan.probe.now w.scan.stream.now (recalled mem (size w)) w.at k k
+
+abbrev pub stop_of : End → Option ℕ
+stop_of matched = None
+stop_of (stopped i) = Some i
+
+abbrev pub end_of : Option ℕ → End
+end_of None = matched
+end_of (Some i) = stopped i
+
+-- how many bytes are left where a window ends: none, or those up to its stop
 abbrev pub left_of : End → ℕ
 left_of matched = 0
 left_of (stopped i) = suc i
 
-abbrev pub end_of : ℕ → End
-end_of zero = matched
-end_of (suc i) = stopped i
+-- a stop within a probe of m bytes
+abbrev pub Within : ℕ → Option ℕ → Type 0
+Within m stop = IfSome stop (λ i. i < m)
+
+-- a window compared, and the comparisons made so far
+pub record Seen : Type 0 where
+  pub stop : Option ℕ
+  pub count : ℕ
+
+abbrev pub seen_as : Option ℕ → ℕ → Seen
+seen_as stop c = record { stop = stop; count = c }
 
 -- a pass that began after c comparisons
 abbrev pub seen_of : Pass → ℕ → Seen
-seen_of p c = record { left = left_of p.end; count = c + p.comps }
+seen_of p c = seen_as (stop_of p.end) (c + p.comps)
 
-abbrev pub passed_as : ℕ → ℕ → ℕ → Passed
-passed_as left kept c = record { left = left; kept = kept; count = c }
+-- the same with the length to remember
+pub record Gone : Type 0 where
+  pub stop : Option ℕ
+  pub kept : ℕ
+  pub count : ℕ
 
-abbrev pub passed_of : Pass → ℕ → Passed
-passed_of p c = passed_as (left_of p.end) p.kept (c + p.comps)
+abbrev pub passed_as : Option ℕ → ℕ → ℕ → Gone
+passed_as stop kept c = record { stop = stop; kept = kept; count = c }
 
--- sizes within the limits
-pub record Sizes (x y : List ℕ) : Type 0 where
-  pub some : 1 ≤ length x
-  pub short : length x ≤ longest
-  pub small : length y ≤ largest
+abbrev pub passed_of : Pass → ℕ → Gone
+passed_of p c = passed_as (stop_of p.end) p.kept (c + p.comps)
 
--- the window at j lies in the stream
-pub record Lies (x y : List ℕ) (j : ℕ) : Type 0 where
-  pub sizes : Sizes x y
-  pub within : j + length x ≤ length y
+-- what the code gives, with the comparisons made so far
+abbrev pub passed_by : Passed → ℕ → Gone
+passed_by w c = passed_as w.stop w.kept c
 
--- Bytes compared from index high − 1 down to low. Those from r.left on are equal; where r.left is above low, the bytes before it are not.
-pub record Ahead (x y : List ℕ) (j high low c : ℕ) (r : Seen) : Type 0 where
-  pub from : low ≤ r.left
-  pub to : r.left ≤ high
-  pub equal : (t : ℕ) → r.left ≤ t → t < high → at y (j + t) ≡ at x t
-  pub stops : low < r.left → at y (j + (r.left - 1)) ≡ at x (r.left - 1) → ⊥
-  pub all : r.left ≤ low → r.count + r.left ≡ c + high
-  pub some : low < r.left → r.count + r.left ≡ c + high + 1
+-- BYTES COMPARED from index high − 1 down to low, after c comparisons. All are equal
+pub record Alike (x y : List ℕ) (j high low c c' : ℕ) : Type 0 where
+  pub equal : (t : ℕ) → low ≤ t → t < high → at y (j + t) ≡ at x t
+  pub count : c' + low ≡ c + high
 
--- the room with both tables and the occurrence table are those of x
-pub record Moving (x tables occ : List ℕ) : Type 0 where
-  pub begins : Begins (both_tables x) tables
-  pub byte : occ ≡ occurrence_table x
+-- or those at i are the first that are not
+pub record Unlike (x y : List ℕ) (j high low c i c' : ℕ) : Type 0 where
+  pub from : low ≤ i
+  pub to : i < high
+  pub equal : (t : ℕ) → i < t → t < high → at y (j + t) ≡ at x t
+  pub stops : at y (j + i) ≡ at x i → ⊥
+  pub count : c' + i ≡ c + high
 
--- the room with both tables is that of x, and the memory room is long enough
-pub record Recalling (x tables mem : List ℕ) : Type 0 where
-  pub begins : Begins (both_tables x) tables
-  pub memory : length x ≤ length mem
+abbrev pub Ahead : List ℕ → List ℕ → ℕ → ℕ → ℕ → ℕ → Option ℕ → ℕ → Type 0
+Ahead x y j high low c stop c' = MatchOption stop (Alike x y j high low c c') (λ i. Unlike x y j high low c i c')
 
 -- the room mem says from j on what R says, and R says nothing from top on
 pub record Memory (m : ℕ) (mem : List ℕ) (j top : ℕ) (R : ℕ → ℕ) : Type 0 where

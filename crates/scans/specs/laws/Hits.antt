@@ -1,5 +1,5 @@
 -- The position room and the number of places noted while a scan runs. Assumes nothing.
-use Rattle.std.specs.Prelude.{◌≡◌, refl, true, false, cond, List, [], ◌∷◌, ◌++◌, ℕ, zero, suc, ◌+◌, ◌≤◌, ◌<◌, ◌%◌, length, get_or, take, drop, set}
+use Rattle.std.specs.Prelude.{◌≡◌, refl, true, false, cond, List, [], ◌∷◌, ◌++◌, ℕ, suc, ◌+◌, ◌≤◌, ◌<◌, ◌%◌, length, get_or, take, drop, set, Option, Some, None, is_some}
 use Rattle.std.proofs.Common.{sym, ap, ◌∙◌, append_assoc, append-nil, zero-le, arith, eqb-true, length-append, length-take, length-drop, drop_of_length-le, take_all, drop-cons}
 use Rattle.std.proofs.Math.Nat.{mod-one, zero-mod}
 use Rattle.std.proofs.Math.Decide.{dec_lt}
@@ -81,19 +81,18 @@ multiples-more d j (k ∷ ps) =
     (λ e. multiples-more d j ps)
 
 -- WHAT A WINDOW ADDS, by the three cases that the code takes
-module _ (d j left h : ℕ) (r : List ℕ) where
-  pub note_stopped : (left ≡ 0 → ⊥) → (h ≡ counted_by d j (end_of left) h) × (r ≡ noted_by d j (end_of left) h r)
-  note_stopped = go left
-    where
-      go : (left : ℕ) → (left ≡ 0 → ⊥) → (h ≡ counted_by d j (end_of left) h) × (r ≡ noted_by d j (end_of left) h r)
-      go zero n = absurd (n refl)
-      go (suc i) n = (refl, refl)
+module _ (d j h : ℕ) (r : List ℕ) where
+  pub note_stopped : (stop : Option ℕ) → is_some stop ≡ true → (h ≡ counted_by d j (end_of stop) h) × (r ≡ noted_by d j (end_of stop) h r)
+  note_stopped None e = absurd cc
+  note_stopped (Some i) e = (refl, refl)
 
-  pub note_passed : left ≡ 0 → on_step d j ≡ false → (h ≡ counted_by d j (end_of left) h) × (r ≡ noted_by d j (end_of left) h r)
-  note_passed z e = rw (z, e) (refl, refl)
+  pub note_passed : (stop : Option ℕ) → is_some stop ≡ false → on_step d j ≡ false → (h ≡ counted_by d j (end_of stop) h) × (r ≡ noted_by d j (end_of stop) h r)
+  note_passed None z e = rw e (refl, refl)
+  note_passed (Some i) z e = absurd cc
 
-  pub note_taken : left ≡ 0 → on_step d j ≡ true → (h + 1 ≡ counted_by d j (end_of left) h) × (set r h j ≡ noted_by d j (end_of left) h r)
-  note_taken z e = rw (z, e) (refl, refl)
+  pub note_taken : (stop : Option ℕ) → is_some stop ≡ false → on_step d j ≡ true → (h + 1 ≡ counted_by d j (end_of stop) h) × (set r h j ≡ noted_by d j (end_of stop) h r)
+  note_taken None z e = rw e (refl, refl)
+  note_taken (Some i) z e = absurd cc
 
 -- WHILE A SCAN RUNS: of the places ps those at multiples of the step are noted, d₀ is the position room at first
 pub record Noted (step : ℕ) (ps d₀ d : List ℕ) (h : ℕ) : Type 0 where

@@ -1,9 +1,7 @@
 -- What the two loops keep from window to window. Assumes nothing.
-use Rattle.std.specs.Prelude.{◌≡◌, refl, List, [], ◌++◌, ℕ, zero, suc, ◌+◌, ◌-◌, ◌*◌, ◌≤◌, ◌<◌, length, drop, replicate}
+use Rattle.std.specs.Prelude.{◌≡◌, refl, List, [], ◌++◌, ℕ, zero, suc, ◌+◌, ◌*◌, ◌≤◌, ◌<◌, length, replicate, drop}
 use Rattle.std.proofs.Common.{ap, ◌∙◌, zero-le, arith, length-append}
 use Rattle.basics.specs.Rooms.{front}
-use Rattle.scans.specs.declared.windows.Seen.{Seen}
-use Rattle.scans.specs.declared.windows.Passed.{Passed}
 use Rattle.scans.specs.declared.memory.Place.{Place}
 use Rattle.scans.specs.declared.closeness.Closest.{Closest}
 use Rattle.scans.specs.Trace.{End, matched, stopped, Pass, equal_by, found}
@@ -11,7 +9,8 @@ use Rattle.scans.specs.Move.{move}
 use Rattle.scans.specs.Plain.{plain_pass, plain_scan, plain}
 use Rattle.scans.specs.Remember.{mem_pass, after, mem_scan, remembering}
 use Rattle.scans.specs.inside.Slots.{recalled, Stands}
-use Rattle.scans.specs.inside.Window.{left_of, end_of, seen_of, passed_of, Sizes, Memory, Quiet, Kept}
+use Rattle.scans.specs.inside.Ready.{Sizes}
+use Rattle.scans.specs.inside.Window.{stop_of, end_of, Seen, seen_of, Gone, passed_of, Memory, Quiet, Kept}
 use Rattle.scans.specs.laws.Plain.{plain_comps, plain_step}
 use Rattle.scans.specs.laws.Remember.{mem_ext, mem_comps, mem_step}
 use Rattle.scans.specs.laws.Move.{move_pos, move_le}
@@ -58,30 +57,23 @@ pub plain_first : (x y : List ℕ) → PlainAt x y 0 [] 0 0 none
 unfolding plain
 plain_first x y = record { counted = counted_none x y; fuel = suc (length y); enough = omega arith; going = going_none (plain x y) (plain_start x y (suc (length y))) }
 
--- what a window function gives: its end, and how many bytes are equal
-equal_left : (m left : ℕ) → m - left ≡ equal_by m (end_of left)
-equal_left m zero = omega arith
-equal_left m (suc i) = omega arith
+-- what a window function gives: its end
+end_stop : (e : End) → end_of (stop_of e) ≡ e
+end_stop matched = refl
+end_stop (stopped i) = refl
 
-closer_end : (m left j : ℕ) (e : End) (b : Closest) {b' : Closest} → end_of left ≡ e → b' ≡ closer_by b (m - left) j → b' ≡ closer_by b (equal_by m e) j
-closer_end m left j e b q near = near ∙ ap (λ (k : ℕ). closer_by b k j) (equal_left m left ∙ ap (equal_by m) q)
-
-end_left : (e : End) → end_of (left_of e) ≡ e
-end_left matched = refl
-end_left (stopped i) = refl
-
-seen_end : (p : Pass) (c : ℕ) {r : Seen} → r ≡ seen_of p c → end_of r.left ≡ p.end
-seen_end p c q = ap (λ (r : Seen). end_of r.left) q ∙ end_left p.end
+seen_end : (p : Pass) (c : ℕ) {r : Seen} → r ≡ seen_of p c → end_of r.stop ≡ p.end
+seen_end p c q = ap (λ (r : Seen). end_of r.stop) q ∙ end_stop p.end
 
 pub plain-next : {x y : List ℕ} {j : ℕ} {ps : List ℕ} {w c : ℕ} {b b' : Closest} {r : Seen} {s : ℕ} → Sizes x y → PlainAt x y j ps w c b → j + length x ≤ length y
-    → r ≡ seen_of (plain_pass x y j) c → s ≡ move x y j (end_of r.left) → b' ≡ closer_by b (length x - r.left) j
-    → PlainAt x y (j + s) (ps ++ found j (end_of r.left) []) (w + 1) r.count b'
+    → r ≡ seen_of (plain_pass x y j) c → s ≡ move x y j (end_of r.stop) → b' ≡ closer_by b (equal_by (length x) (end_of r.stop)) j
+    → PlainAt x y (j + s) (ps ++ found j (end_of r.stop) []) (w + 1) r.count b'
 plain-next {x} {y} {j} {ps} {w} {c} {b} {b'} {r} {s} z g l q v near = rw e (go g.fuel g.enough g.going)
   where
     p : Pass
     p = plain_pass x y j
 
-    e : end_of r.left ≡ p.end
+    e : end_of r.stop ≡ p.end
     e = seen_end p c q
 
     t : s ≡ move x y j p.end
@@ -91,7 +83,7 @@ plain-next {x} {y} {j} {ps} {w} {c} {b} {b'} {r} {s} z g l q v near = rw e (go g
     k = ap (λ (r : Seen). r.count) q
 
     n : b' ≡ closer_by b (equal_by (length x) p.end) j
-    n = closer_end (length x) r.left j p.end b e near
+    n = rw e at near
 
     go : (f : ℕ) → length y < f + j → Going (plain x y) (plain_scan x y f j) ps w c b → PlainAt x y (j + s) (ps ++ found j p.end []) (w + 1) r.count b'
     go zero u o = absurd (omega arith)
@@ -144,10 +136,10 @@ mem_quiet g u = record { under = omega arith; quiet = λ h l k. g.says h l ∙ g
 memory_later : {m : ℕ} {mem : List ℕ} {j top : ℕ} {R : ℕ → ℕ} (s : ℕ) → Memory m mem j top R → Memory m mem (j + s) top R
 memory_later s g = record { says = λ h l. g.says h (omega arith); quiet = g.quiet }
 
-pub mem_next : {x y mem₀ mem mem' : List ℕ} {p p' : Place} {top top' : ℕ} {ps : List ℕ} {w c : ℕ} {b b' : Closest} {r : Passed} {s : ℕ} → Sizes x y → MemAt x y mem₀ mem p top ps w c b → p.at + length x ≤ length y
-    → r ≡ passed_of (mem_pass x y (recalled mem (length x)) p.at) c → s ≡ move x y p.at (end_of r.left)
-    → Kept (length x) mem p.at top r.kept mem' top' → length mem' ≡ length mem → Stands (length x) (p.at + s) p' → b' ≡ closer_by b (length x - r.left) p.at
-    → MemAt x y mem₀ mem' p' top' (ps ++ found p.at (end_of r.left) []) (w + 1) r.count b'
+pub mem_next : {x y mem₀ mem mem' : List ℕ} {p p' : Place} {top top' : ℕ} {ps : List ℕ} {w c : ℕ} {b b' : Closest} {r : Gone} {s : ℕ} → Sizes x y → MemAt x y mem₀ mem p top ps w c b → p.at + length x ≤ length y
+    → r ≡ passed_of (mem_pass x y (recalled mem (length x)) p.at) c → s ≡ move x y p.at (end_of r.stop)
+    → Kept (length x) mem p.at top r.kept mem' top' → length mem' ≡ length mem → Stands (length x) (p.at + s) p' → b' ≡ closer_by b (equal_by (length x) (end_of r.stop)) p.at
+    → MemAt x y mem₀ mem' p' top' (ps ++ found p.at (end_of r.stop) []) (w + 1) r.count b'
 mem_next {x} {y} {mem₀} {mem} {mem'} {p} {p'} {top} {top'} {ps} {w} {c} {b} {b'} {r} {s} z g l q v kept len on near = rw e (go g.fuel g.enough g.going)
   where
     j : ℕ
@@ -159,23 +151,23 @@ mem_next {x} {y} {mem₀} {mem} {mem'} {p} {p'} {top} {top'} {ps} {w} {c} {b} {b
     q' : r ≡ passed_of P c
     q' = q ∙ ap (λ (p : Pass). passed_of p c) (mem_ext x y (recalled mem (length x)) j g.R g.memory.says (length x) (length x))
 
-    e : end_of r.left ≡ P.end
-    e = ap (λ (r : Passed). end_of r.left) q' ∙ end_left P.end
+    e : end_of r.stop ≡ P.end
+    e = ap (λ (r : Gone). end_of r.stop) q' ∙ end_stop P.end
 
     t : s ≡ move x y j P.end
     t = rw e at v
 
     k : r.count ≡ c + P.comps
-    k = ap (λ (r : Passed). r.count) q'
+    k = ap (λ (r : Gone). r.count) q'
 
     m : r.kept ≡ P.kept
-    m = ap (λ (r : Passed). r.kept) q'
+    m = ap (λ (r : Gone). r.kept) q'
 
     o : p'.at ≡ j + s
     o = place_at on
 
     n : b' ≡ closer_by b (equal_by (length x) P.end) j
-    n = closer_end (length x) r.left j P.end b e near
+    n = rw e at near
 
     go : (f : ℕ) → length y < f + j → Going (remembering x y) (mem_scan x y g.R f j) ps w c b
         → MemAt x y mem₀ mem' p' top' (ps ++ found j P.end []) (w + 1) r.count b'

@@ -1,5 +1,5 @@
 -- Every move is from 1 to m. Assumes nothing.
-use Rattle.std.specs.Prelude.{◌≡◌, List, ℕ, suc, ◌+◌, ◌-◌, ◌≤◌, max, length}
+use Rattle.std.specs.Prelude.{◌≡◌, refl, List, ℕ, ◌+◌, ◌-◌, ◌≤◌, max, length}
 use Rattle.std.proofs.Common.{arith}
 use Rattle.basics.specs.Lists.{at}
 use Rattle.tables.specs.Shift.{shift_at}
@@ -8,7 +8,6 @@ use Rattle.tables.specs.laws.Shift.{shift_pos, shift_le}
 use Rattle.tables.specs.laws.Occurrence.{occurrence_le}
 use Rattle.scans.specs.Trace.{End, matched, stopped}
 use Rattle.scans.specs.Move.{move}
-use Rattle.scans.specs.inside.Window.{end_of}
 
 pub move_pos : (x y : List ℕ) (j : ℕ) (e : End) → 1 ≤ move x y j e
 unfolding move
@@ -20,11 +19,11 @@ unfolding move
 move_le x y j matched some = shift_le x 0 some
 move_le x y j (stopped i) some = omega (arith, shift_le x i some, occurrence_le x (at y (j + i)) some)
 
--- the move of a window whose end is told by a number
-pub move_matched : (x y : List ℕ) (j left : ℕ) → left ≡ 0 → move x y j (end_of left) ≡ shift_at x 0
+-- the two cases of a move
+pub move_matched : (x y : List ℕ) (j : ℕ) → move x y j matched ≡ shift_at x 0
 unfolding move
-move_matched x y j left e = rw e
+move_matched x y j = refl
 
-pub move_stopped : (x y : List ℕ) (j left i : ℕ) → left ≡ suc i → move x y j (end_of left) ≡ max (shift_at x i) (occurrence_at x (at y (j + i)) - (length x - left))
+pub move_stopped : (x y : List ℕ) (j i : ℕ) → move x y j (stopped i) ≡ max (shift_at x i) (occurrence_at x (at y (j + i)) - (length x - 1 - i))
 unfolding move
-move_stopped x y j left i e = let q : length x - 1 - i ≡ length x - suc i = omega arith in rw (e, q)
+move_stopped x y j i = refl

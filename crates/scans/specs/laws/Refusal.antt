@@ -1,7 +1,8 @@
 -- The causes of refusal, one by one. Assumes nothing.
-use Rattle.std.specs.Prelude.{◌≡◌, refl, Bool, true, false, cond, ◌||◌, ℕ, ◌*◌, ◌≤◌, ◌<◌, eqb, ltb}
-use Rattle.std.proofs.Common.{sym, ◌∙◌, arith}
+use Rattle.std.specs.Prelude.{◌≡◌, refl, Bool, true, false, cond, ◌||◌, ℕ, ◌*◌, ◌≤◌, ◌<◌, eqb, ltb, Result, Ok, Err, IsErrAnd}
+use Rattle.std.proofs.Common.{sym, ap, ◌∙◌, arith}
 use borrow.Author.Tests.{eqb-false, eq-eqb, ne_eqb, lt-ltb, le-ltb, ltb-false}
+use Rattle.basics.specs.declared.refusal.Refusal.{Refusal}
 use Rattle.tables.specs.Refusal.{longest}
 use Rattle.scans.specs.Refusal.{largest, refusal_of}
 
@@ -29,6 +30,11 @@ module _ (m n t e : ℕ) where
   pub refuses_none : (m ≡ 0 → ⊥) → m ≤ longest → n ≤ largest → 2 * m ≤ t → m ≤ e → refusal_of m n t e ≡ 0
   unfolding refusal_of
   refuses_none a b c d f = rw (ne_eqb m 0 a, le-ltb longest m b, le-ltb largest n c, le-ltb t (2 * m) d, le-ltb e m f)
+
+-- what `?` hands on is the refusal that it met
+pub handed_on : {A : Type 0} {f : Refusal} (r : Result A Refusal) → IsErrAnd r (λ e. e ≡ f) → r ≡ Err f
+handed_on (Ok a) h = absurd h
+handed_on (Err e) h = ap Err h
 
 -- sizes that no cause refuses
 pub record Accepted (m n t e : ℕ) : Type 0 where

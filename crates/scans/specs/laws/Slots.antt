@@ -3,9 +3,9 @@ use Rattle.std.specs.Prelude.{◌≡◌, refl, List, ℕ, suc, ◌+◌, ◌-◌,
 use Rattle.std.proofs.Common.{sym, ap, subst, ◌∙◌, arith, get_or-set_same, get_or-set_other, drop-set-lt, div-add-mod', mul-le-mul_right, sub-eq-zero_of_le, lt_of_mul-lt-mul_right, suc-mul, mod-lt, mod-eq_of_lt}
 use Rattle.std.proofs.Math.Decide.{ℕ_discrete, dec_lt}
 use Rattle.std.proofs.lemmas.List.{length-replicate, get_or-replicate}
-use Rattle.std.proofs.Math.ListN.{get_or-append}
 use Rattle.basics.specs.Lists.{at}
 use Rattle.basics.specs.Rooms.{front}
+use Rattle.std.proofs.Math.ListN.{get_or-append}
 use Rattle.scans.specs.declared.memory.Place.{Place}
 use Rattle.scans.specs.Remember.{remember}
 use Rattle.scans.specs.inside.Slots.{recalled, remembered, place_of, Stands}

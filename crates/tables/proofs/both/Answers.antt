@@ -1,31 +1,27 @@
 -- `tables::both` meets its contract: the shift table is filled out of the suffix table that the first call left.
 -- Assumes nothing.
-use Rattle.std.proofs.Common.{sym, ◌∙◌, arith, length}
-use Rattle.basics.specs.laws.Rooms.{room_kept}
-use Rattle.tables.specs.laws.Refusal.{sized}
-use Rattle.tables.specs.laws.Suffix.{length-suffix_table}
-use Rattle.tables.specs.laws.Both.{begins_first, both_filled}
+use Rattle.std.proofs.Common.{rules, refl, sym, ap, ◌∙◌, arith, length}
+use Rattle.basics.specs.Rooms.{front}
+use Rattle.tables.specs.Both.{both_tables}
+use Rattle.tables.specs.laws.Refusal.{sized, refuses_probe}
+use Rattle.tables.specs.laws.Both.{both_filled}
+use Rattle.tables.specs.laws.Inside.{stays_bytes}
 use Rattle.tables.proofs.both.Goals as goal
 
-pub returns-then-refusal-ne0 : goal.returns-then-refusal-ne0
-returns-then-refusal-ne0 c = record { answer = c.causes-refusal.ensures; room = sym (room_kept _ _ _ c.if-refusal-ne0.true) }
+pub returns-in_err-x : goal.returns-in_err-x
+returns-in_err-x c = search (rules, refuses_probe)
 
-pub fill-requires : goal.fill-requires
-fill-requires c =
-    let a = c.args in
-    omega (arith, sized 2 (length a.probe.now) (length a.room.now) c.causes-refusal.ensures c.if-refusal-ne0.false)
-
-pub fill-requires-2 : goal.fill-requires-2
-fill-requires-2 c =
-    let a = c.args in
-    let z = sized 2 (length a.probe.now) (length a.room.now) c.causes-refusal.ensures c.if-refusal-ne0.false in
-    let fill = c.fill in
-    record { in_bounds = (z.some, z.short, omega (arith, z.reaches, fill.auto)); begins = begins_first fill.ensures (omega (arith, z.reaches, length-suffix_table a.probe.now)) }
+pub invariant_of-pairs : goal.invariant_of-pairs
+invariant_of-pairs c = record { reaches = omega (arith, sized 2 (length c.in_ok-x.x.bytes.now) (length c.args.room.now) c.in_ok-within.ensures refl) }
 
 pub returns : goal.returns
 returns c =
-    let a = c.args in
+    let v = c.fill.ensures in
+    let w = c.fill-2.ensures in
+    let e = c.in_ok-x.ensures.probe in
+    let name = sym (w.stays.room ∙ v.stays.room) in
+    let all = both_filled c.in_ok-x.x.bytes.now v.table (rw (stays_bytes v.stays) at w.table) ∙ ap (λ t. front (both_tables t) c.args.room.now) e in
     record {
-      answer = sym c.if-refusal-ne0.false ∙ c.causes-refusal.ensures;
-      room = both_filled a.probe.now c.fill.ensures c.fill-2.ensures;
+      answer = rw e at c.in_ok-within.ensures;
+      room = grind (arith, name, all);
     }

@@ -1,23 +1,25 @@
 -- `tables::occurrence` meets its contract: the value for each refusal is `value_after`'s.
 -- Assumes nothing.
-use Rattle.std.proofs.Common.{sym, ◌∙◌, arith, length}
+use Rattle.std.proofs.Common.{◌≡◌, ap, ◌∙◌, ℕ, List, length, Err, arith, rules}
+use Rattle.basics.specs.declared.refusal.Refusal.{Refusal}
+use Rattle.basics.specs.Refusal.{number_of}
+use Rattle.basics.specs.laws.Refusal.{number_above}
 use Rattle.tables.specs.Occurrence.{occurrence_table}
-use Rattle.tables.specs.laws.Refusal.{sized}
+use Rattle.tables.specs.Refusal.{refusal_of}
+use Rattle.tables.specs.Promise.{occurrence_of, occurrences_seen}
 use Rattle.tables.specs.laws.Occurrence.{occurrence_by, value_refused}
 use Rattle.tables.proofs.occurrence.Goals as goal
 
-pub returns-then-refusal-ne0 : goal.returns-then-refusal-ne0
-returns-then-refusal-ne0 c =
-    let x = c.args.probe.now in
-    let a = c.causes-refusal in
-    (λ k. record { refusal = a.result; table = value_refused a.result (occurrence_table x) c.if-refusal-ne0.true k }) ∙ occurrence_by x a.result a.ensures
+-- an outcome that is no table reads as 256 zeros
+refused : (x : List ℕ) (r : Refusal) → number_of r ≡ refusal_of 0 (length x) 0 → occurrences_seen (Err r) ≡ occurrence_of x
+refused x r e =
+    (λ k. record { refusal = number_of r; table = value_refused (number_of r) (occurrence_table x) (λ z. omega (arith, number_above r)) k }) ∙ occurrence_by x (number_of r) e
 
-pub by_byte-table-requires : goal.by_byte-table-requires
-by_byte-table-requires c =
-    let m = length c.args.probe.now in
-    omega (arith, sized 0 m 0 c.causes-refusal.ensures c.if-refusal-ne0.false)
+pub returns-in_err-x : goal.returns-in_err-x
+returns-in_err-x c = search (rules, refused)
 
 pub returns : goal.returns
 returns c =
-    let x = c.args.probe.now in
-    (λ k. record { refusal = 0; table = c.by_byte-table.ensures k }) ∙ occurrence_by x 0 (sym c.if-refusal-ne0.false ∙ c.causes-refusal.ensures)
+    let k = c.in_ok-x.ensures in
+    let q : c.by_byte.result ≡ occurrence_table c.args.probe.now = c.by_byte.ensures ∙ ap occurrence_table k.probe in
+    (λ k. record { refusal = 0; table = q k }) ∙ occurrence_by c.args.probe.now 0 k.refusal

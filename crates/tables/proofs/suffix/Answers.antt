@@ -1,33 +1,24 @@
 -- `tables::suffix` meets its contract: the pairs stand in a local array, and the firsts are taken out of it.
 -- Assumes nothing.
-use Rattle.std.proofs.Common.{ℕ, sym, ap, ◌∙◌, List, arith, length}
+use Rattle.std.proofs.Common.{rules, refl, ap, ◌∙◌, List, ℕ, arith, length}
 use Rattle.basics.specs.Rooms.{front}
-use Rattle.basics.specs.laws.Rooms.{room_kept}
-use Rattle.tables.specs.laws.Refusal.{sized}
-use Rattle.tables.specs.laws.Suffix.{length-suffix_table}
-use Rattle.tables.specs.laws.Both.{begins_first, first_of_each}
+use Rattle.tables.specs.Suffix.{suffix_table}
+use Rattle.tables.specs.laws.Refusal.{sized, refuses_probe}
+use Rattle.tables.specs.laws.Inside.{stays_long, suffix_taken}
 use Rattle.tables.proofs.suffix.Goals as goal
 
-pub returns-then-refusal-ne0 : goal.returns-then-refusal-ne0
-returns-then-refusal-ne0 c = record { answer = c.causes-refusal.ensures; room = sym (room_kept _ _ _ c.if-refusal-ne0.true) }
-
-pub fill-requires : goal.fill-requires
-fill-requires c =
-    let a = c.args in
-    omega (arith, sized 1 (length a.probe.now) (length a.room.now) c.causes-refusal.ensures c.if-refusal-ne0.false)
+pub returns-in_err-x : goal.returns-in_err-x
+returns-in_err-x c = search (rules, refuses_probe)
 
 pub every_second-requires : goal.every_second-requires
 every_second-requires c =
-    let a = c.args in
-    omega (arith, sized 1 (length a.probe.now) (length a.room.now) c.causes-refusal.ensures c.if-refusal-ne0.false)
+    omega (arith, stays_long c.fill.ensures.stays, sized 1 (length c.in_ok-x.x.bytes.now) (length c.args.room.now) c.in_ok-within.ensures refl)
 
 pub returns : goal.returns
 returns c =
-    let a = c.args in
-    let x = a.probe.now in
-    let z = sized 1 (length x) (length a.room.now) c.causes-refusal.ensures c.if-refusal-ne0.false in
-    let b = begins_first c.fill.ensures (omega (arith, z.short, length-suffix_table x)) in
+    let v = c.fill.ensures in
+    let e = c.in_ok-x.ensures.probe in
     record {
-      answer = sym c.if-refusal-ne0.false ∙ c.causes-refusal.ensures;
-      room = c.every_second.ensures ∙ ap (λ (t : List ℕ). front t a.room.now) (first_of_each _ (length x) (length-suffix_table x) b);
+      answer = rw e at c.in_ok-within.ensures;
+      room = c.every_second.ensures ∙ ap (λ (t : List ℕ). front t c.args.room.now) (suffix_taken v.stays v.table ∙ ap suffix_table e);
     }

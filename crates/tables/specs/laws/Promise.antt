@@ -2,10 +2,9 @@
 use Rattle.std.specs.Prelude.{◌≡◌, List, ℕ, ◌*◌, ◌≤◌, length}
 use Rattle.std.proofs.Common.{sym, ap, ◌∙◌, arith}
 use Rattle.basics.specs.Rooms.{front}
-use Rattle.tables.specs.declared.Occurrences.{Occurrences}
 use Rattle.tables.specs.Occurrence.{occurrence_table}
 use Rattle.tables.specs.Refusal.{longest}
-use Rattle.tables.specs.Promise.{Written, occurrence_of}
+use Rattle.tables.specs.Promise.{Written, Occurrences, occurrence_of}
 use Rattle.tables.specs.laws.Refusal.{refuses_none}
 use Rattle.tables.specs.laws.Occurrence.{occurrence_by}
 

@@ -50,3 +50,13 @@ never_short m e = go (eqb m 0) (ltb longest m) (rw (le-ltb 0 (0 * m) (omega arit
     go true b e = omega arith
     go false true e = omega arith
     go false false e = omega arith
+
+-- a cause that lies in the probe alone is the first for any room
+pub refuses_probe : (k m n : ℕ) → 0 < refusal_of 0 m 0 → refusal_of k m n ≡ refusal_of 0 m 0
+unfolding refusal_of
+refuses_probe k m n h = rw (le-ltb 0 (0 * m) (omega arith)) (go (eqb m 0) (ltb longest m) (rw (le-ltb 0 (0 * m) (omega arith)) at h))
+  where
+    go : (a b : Bool) → 0 < cond a 1 (cond b 2 0) → ◌≡◌ {A = ℕ} (cond a 1 (cond b 2 (cond (ltb n (k * m)) 4 0))) (cond a 1 (cond b 2 0))
+    go true b e = refl
+    go false true e = refl
+    go false false e = absurd (omega arith)

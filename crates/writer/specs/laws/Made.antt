@@ -1,6 +1,8 @@
 -- Laws of the log that is made: how long its parts are, and sums of lengths. Assumes nothing.
-use Rattle.std.specs.Prelude.{◌≡◌, refl, List, ◌++◌, ℕ, zero, suc, ◌+◌, ◌-◌, ◌*◌, ◌≤◌, ◌<◌, length}
-use Rattle.std.proofs.Common.{add-one, arith, length-append}
+use Rattle.std.specs.Prelude.{◌≡◌, refl, List, ◌++◌, ℕ, zero, suc, ◌+◌, ◌-◌, ◌*◌, ◌≤◌, ◌<◌, length, take, sum}
+use Rattle.std.proofs.Common.{sym, add-one, arith, length-append}
+use Rattle.std.proofs.Math.Seq.{take-length}
+use Rattle.std.proofs.lemmas.List.Sums.{fold_more}
 use Rattle.basics.specs.Lists.{at}
 use Rattle.drawlog.specs.Log.{entry_size, trailer_size}
 use Rattle.drawlog.specs.Number.{bytes_of}
@@ -40,6 +42,15 @@ sum_up ns k (suc n) = let e : k + suc n ≡ suc (k + n) = omega arith in rw e (o
 
 pub sum_le : (ns : List ℕ) (k n : ℕ) → k ≤ n → sum_to ns k ≤ sum_to ns n
 sum_le ns k n h = let e : k + (n - k) ≡ n = omega arith in rw e at (sum_up ns k (n - k))
+
+-- the first of them as the library adds them up, and all
+sum_taken : (ns : List ℕ) (k : ℕ) → k ≤ length ns → sum_to ns k ≡ sum (take k ns)
+unfolding sum_to
+sum_taken ns zero h = refl
+sum_taken ns (suc k) h = rw (sum_taken ns k (omega arith)) (sym (rw add-one at (fold_more (λ (a x : ℕ). a + x) 0 ns k 0 (omega arith))))
+
+pub sum_all : (ns : List ℕ) → sum ns ≡ sum_to ns (length ns)
+sum_all ns = sym (rw take-length at (sum_taken ns (length ns) (omega arith)))
 
 -- block k ends within the sum of all
 pub block_le : (ns : List ℕ) (k n : ℕ) → k < n → sum_to ns k + at ns k ≤ sum_to ns n

@@ -1,5 +1,5 @@
 -- Laws of parts put into a room, each at the place where the last one ended. Assumes nothing.
-use Rattle.std.specs.Prelude.{◌≡◌, List, [], ◌++◌, ℕ, ◌+◌, ◌*◌, ◌≤◌, length}
+use Rattle.std.specs.Prelude.{◌≡◌, refl, List, [], ◌∷◌, ◌++◌, ℕ, ◌+◌, ◌*◌, ◌/◌, ◌%◌, ◌≤◌, length}
 use Rattle.std.proofs.Common.{ap, ◌∙◌, add-one, arith, length-append}
 use Rattle.basics.specs.Lists.{at}
 use Rattle.basics.specs.laws.Inlaid.{inlaid_length, inlaid_none, inlaid_then}
@@ -7,7 +7,8 @@ use Rattle.drawlog.specs.Log.{entry_size}
 use Rattle.drawlog.specs.Number.{bytes_of}
 use Rattle.drawlog.specs.laws.Number.{length_bytes}
 use Rattle.writer.specs.Made.{sum_to, entry_bytes, directory_bytes, trailer_bytes, made}
-use Rattle.writer.specs.Inside.{Put}
+use Rattle.writer.specs.declared.put.Cursor.{Cursor}
+use Rattle.writer.specs.Inside.{Put, Puts}
 use Rattle.writer.specs.laws.Made.{length-directory}
 
 pub put-length : {d w d' : List ℕ} {p r : ℕ} → Put d p w r d' → length d' ≡ length d
@@ -42,3 +43,30 @@ pub put-made : (b is ns : List ℕ) {d d₁ d₂ d₃ : List ℕ} {r q z : ℕ} 
     → Put d₂ q (trailer_bytes r (length is)) z d₃ → Put d 0 (made b is ns) z d₃
 unfolding made
 put-made b is ns {r = r} t u v = let e : r ≡ length b = omega (arith, t.after) in put_then t (put_then u (rw e at v))
+
+-- a number's bytes, as the library takes them
+pub word_bytes : (n : ℕ) → n % 256 ∷ n / 256 % 256 ∷ n / 65536 % 256 ∷ n / 16777216 % 256 ∷ [] ≡ bytes_of n
+unfolding bytes_of
+word_bytes n =
+    let third : n / 65536 ≡ n / 256 / 256 = omega arith in
+    let fourth : n / 16777216 ≡ n / 256 / 256 / 256 = omega arith in
+    rw (third, fourth)
+
+-- THE CURSOR, after nothing, and after one list and another
+pub puts_none : (c : Cursor) → c.place ≤ length c.room.now → Puts c [] c
+puts_none c h = record { same = refl; put = put-none c.room.now c.place h }
+
+pub puts_then : {c c₁ c₂ : Cursor} {w v : List ℕ} → Puts c w c₁ → Puts c₁ v c₂ → Puts c (w ++ v) c₂
+puts_then t u = record { same = u.same ∙ t.same; put = put_then t.put u.put }
+
+-- where it stands after a number, and after the first k entries, in a room as long as it was
+pub puts_number : (n : ℕ) {c c' : Cursor} → Puts c (bytes_of n) c' → (c'.place ≡ c.place + 4) × (length c'.room.now ≡ length c.room.now)
+puts_number n t = (put-number n t.put, put-length t.put)
+
+pub puts_entries : (is ns : List ℕ) (k : ℕ) {c c' : Cursor} → Puts c (directory_bytes is ns k) c' → (c'.place ≡ c.place + entry_size * k) × (length c'.room.now ≡ length c.room.now)
+puts_entries is ns k t = (put_entries is ns k t.put, put-length t.put)
+
+-- one entry more
+pub puts_entry : (is ns : List ℕ) (k i a n : ℕ) {c c₁ c₂ : Cursor} → Puts c (directory_bytes is ns k) c₁ → Puts c₁ (bytes_of i ++ (bytes_of a ++ bytes_of n)) c₂
+    → i ≡ at is k → a ≡ sum_to ns k → n ≡ at ns k → Puts c (directory_bytes is ns (k + 1)) c₂
+puts_entry is ns k i a n t u x y z = record { same = u.same ∙ t.same; put = put_entry is ns k i a n t.put u.put x y z }

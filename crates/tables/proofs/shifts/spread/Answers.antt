@@ -1,40 +1,27 @@
-use Rattle.std.proofs.Common.{refl, ap, ◌∙◌, arith, length}
-use Rattle.basics.specs.laws.Rooms.{filled_more, filled_length, filled_all}
+use Rattle.std.proofs.Common.{refl, ◌∙◌, arith, length}
+use Rattle.basics.specs.laws.Rooms.{filled_more}
 use Rattle.tables.specs.Both.{seconds}
-use Rattle.tables.specs.laws.Both.{half_reaches, same_halves, seconds-set, firsts_kept}
+use Rattle.tables.specs.laws.Both.{half_reaches}
+use Rattle.tables.specs.laws.Inside.{stays_none, stays_then}
 use Rattle.tables.specs.laws.Figure11.{spread_none, spread_on}
 use Rattle.tables.proofs.shifts.spread.Goals as goal
 
 pub loop-q-init : goal.loop-q-init
 loop-q-init c =
     let a = c.args in
-    let r = half_reaches a.to a.room.now (omega arith) in
-    (omega arith, omega arith, spread_none (seconds a.room.now) a.from a.v (omega (arith, r.1)), refl)
-
-pub bounds-room-q : goal.bounds-room-q
-bounds-room-q c =
-    let l = c.loop-q in
-    let a = c.args in
-    let r = half_reaches a.to a.room.now (omega arith) in
-    omega (arith, same_halves l.room a.room.now (ap length l.invariant.3) (filled_length l.invariant.2 (omega (arith, r.1))))
+    let p = a.pairs.now in
+    let r = half_reaches (length p.x.bytes.now) p.room.now p.reaches in
+    record { stays = stays_none; done = spread_none (seconds p.room.now) a.from a.s (omega (arith, r.1)); others = refl }
 
 pub loop-q-preserved : goal.loop-q-preserved
 loop-q-preserved c =
-    let l = c.loop-q in
     let a = c.args in
-    let r = half_reaches a.to a.room.now (omega arith) in (
-      omega arith,
-      omega arith,
-      rw (seconds-set l.room l.q a.v) (filled_more l.invariant.2 (omega (arith, r.1)) (spread_on (seconds a.room.now) a.from a.v l.q (omega arith))),
-      firsts_kept l.room l.q a.v ∙ l.invariant.3,
-    )
-
-pub shape_of-room : goal.shape_of-room
-shape_of-room c =
-    let l = c.loop-q in
-    let a = c.args in
-    let r = half_reaches a.to a.room.now (omega arith) in
-    same_halves l.room a.room.now (ap length l.invariant.3) (filled_length l.invariant.2 (omega (arith, r.1)))
-
-pub returns : goal.returns
-returns c = let l = c.loop-q in record { written = filled_all l.invariant.2 (omega arith); others = l.invariant.3 }
+    let p = a.pairs.now in
+    let v = c.loop-q.invariant in
+    let w = c.set_shift.ensures in
+    let r = half_reaches (length p.x.bytes.now) p.room.now p.reaches in
+    record {
+      stays = stays_then v.stays w.stays;
+      done = rw w.seconds (filled_more v.done (omega (arith, r.1)) (spread_on (seconds p.room.now) a.from a.s c.loop-q.q (omega arith)));
+      others = w.firsts ∙ v.others;
+    }

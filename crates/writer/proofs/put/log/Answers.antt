@@ -1,17 +1,16 @@
 -- `put::log` meets its contract: blocks, directory and trailer, one after another.
 -- Assumes nothing.
-use Rattle.std.proofs.Common.{arith}
-use Rattle.writer.specs.laws.Put.{put_entries, put-made}
+use Rattle.std.proofs.Common.{sym, ◌∙◌, rules, arith}
+use Rattle.writer.specs.laws.Put.{puts_entries, put-length, put-made}
 use Rattle.writer.proofs.put.log.Goals as goal
-
-pub overflow_cast-start : goal.overflow_cast-start
-overflow_cast-start c =
-    omega (arith, put_entries _ _ _ c.directory-end.ensures, c.bytes-start.ensures.after)
 
 pub trailer-requires : goal.trailer-requires
 trailer-requires c =
-    omega (arith, put_entries _ _ _ c.directory-end.ensures, c.bytes-start.ensures.after)
+    omega (arith, puts_entries _ _ _ c.directory.ensures, put-length c.bytes.ensures.put, c.bytes.ensures.put.after)
 
+-- what the cursor holds is still the room that was lent
 pub returns : goal.returns
 returns c =
-    put-made _ _ _ c.bytes-start.ensures c.directory-end.ensures c.trailer.ensures
+    let same = sym (c.trailer.ensures.same ∙ c.directory.ensures.same ∙ c.bytes.ensures.same) in
+    let all = put-made _ _ _ c.bytes.ensures.put c.directory.ensures.put c.trailer.ensures.put in
+    search rules

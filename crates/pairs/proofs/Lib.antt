@@ -1,0 +1,2 @@
+-- the outcomes of the code, by their cases
+pub mod Outcomes
