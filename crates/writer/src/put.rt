@@ -1,5 +1,6 @@
 // The parts of a log, put into a room one after another, each where the last one ended.
 ghost use Rattle.std.specs.Prelude.{◌≡◌, ◌++◌, ◌+◌, ◌*◌, ◌≤◌, length};
+ghost use Rattle.basics.specs.laws.Inlaid.{Inlaid};
 ghost use Rattle.drawlog.specs.Log.{entry_size, trailer_size, longest};
 ghost use Rattle.drawlog.specs.Number.{bytes_of};
 ghost use Rattle.writer.specs.Made.{sum_to, directory_bytes, trailer_bytes, made};
@@ -80,7 +81,18 @@ impl Cursor<'_> {
         ensures { Puts self.old w.now self.new }
     {
         let end = self.place + w.len();
-        self.room[self.place..end].copy_from_slice(w);
+        lay(self.room, self.place, w);
         self.place = end;
+    }
+}
+
+// Lays the bytes w into a room, from a place on. By hand: std's `copy_from_slice` becomes a call of `memmove`, which the
+// archive would then need of whoever links it.
+fn lay(room: &mut [u8], at: usize, w: &[u8])
+    requires { at + length w.now ≤ length room.old }
+    ensures { Inlaid room.old at w.now room.new }
+{
+    for (i, b) in w.iter().enumerate() {
+        room[at + i] = *b;
     }
 }

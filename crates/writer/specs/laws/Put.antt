@@ -1,11 +1,11 @@
 -- Laws of parts put into a room, each at the place where the last one ended. Assumes nothing.
 use Rattle.std.specs.Prelude.{◌≡◌, refl, List, [], ◌∷◌, ◌++◌, ℕ, ◌+◌, ◌*◌, ◌/◌, ◌%◌, ◌≤◌, length}
-use Rattle.std.proofs.Common.{ap, ◌∙◌, add-one, arith, length-append}
+use Rattle.std.proofs.Common.{sym, ap, ◌∙◌, add-one, arith, length-append}
 use Rattle.basics.specs.Lists.{at}
 use Rattle.basics.specs.laws.Inlaid.{inlaid_length, inlaid_none, inlaid_then}
 use Rattle.drawlog.specs.Log.{entry_size}
 use Rattle.drawlog.specs.Number.{bytes_of}
-use Rattle.drawlog.specs.laws.Number.{length_bytes}
+use Rattle.drawlog.specs.laws.Number.{bytes_are, length_bytes}
 use Rattle.writer.specs.Made.{sum_to, entry_bytes, directory_bytes, trailer_bytes, made}
 use Rattle.writer.specs.declared.put.Cursor.{Cursor}
 use Rattle.writer.specs.Inside.{Put, Puts}
@@ -46,11 +46,10 @@ put-made b is ns {r = r} t u v = let e : r ≡ length b = omega (arith, t.after)
 
 -- a number's bytes, as the library takes them
 pub word_bytes : (n : ℕ) → n % 256 ∷ n / 256 % 256 ∷ n / 65536 % 256 ∷ n / 16777216 % 256 ∷ [] ≡ bytes_of n
-unfolding bytes_of
 word_bytes n =
     let third : n / 65536 ≡ n / 256 / 256 = omega arith in
     let fourth : n / 16777216 ≡ n / 256 / 256 / 256 = omega arith in
-    rw (third, fourth)
+    rw (third, fourth) (sym (bytes_are n))
 
 -- THE CURSOR, after nothing, and after one list and another
 pub puts_none : (c : Cursor) → c.place ≤ length c.room.now → Puts c [] c
