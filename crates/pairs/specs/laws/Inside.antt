@@ -3,10 +3,9 @@ use Rattle.std.specs.Prelude.{◌≡◌, refl, List, [], ◌∷◌, ◌++◌, �
 use Rattle.std.proofs.Common.{sym, ap, ◌∙◌, add-zero, arith, length-append, drop-drop}
 use Rattle.basics.specs.laws.Rooms.{beyond_none, beyond_then}
 use Rattle.basics.specs.laws.Inlaid.{Inlaid, inlaid_length, inlaid_none, inlaid_then}
-use Rattle.scans.specs.Occurrences.{occurrences, multiples}
-use Rattle.scans.specs.Promise.{Tally, tally_of, Aligning}
-use Rattle.scans.specs.laws.Refusal.{Accepted, accepts}
-use Rattle.scans.specs.laws.Search.{counted}
+use Rattle.scans.specs.Promise.{Tally, Aligning}
+use Rattle.scans.specs.laws.Refusal.{Accepted}
+use Rattle.scans.specs.laws.Search.{unrefused, counted}
 use Rattle.drawlog.specs.Promise.{tested_of, listed_of}
 use Rattle.pairs.specs.declared.run.Run.{Run}
 use Rattle.pairs.specs.Check.{probe_size, block, probed, Pair, pair_with, pairs_with, pairs_of, pairs, unprobed, numbers}
@@ -83,12 +82,9 @@ sought {d} {x} {y} s b there q g ready =
 -- and that it refuses nothing
 pub served : {d : ℕ} {x y t e : List ℕ} {r : Tally} {t' e' : List ℕ} (s : List ℕ) (b : ℕ) → b < (tested_of s).count
     → y ≡ take (listed_of s b).length (drop (listed_of s b).start s) → Aligning x y t e d r t' e' → Ready (length x) t e → r.refusal ≡ 0
-unfolding tally_of
 served {d} {x} {y} s b there q g ready =
     let z : y ≡ block s b = q ∙ block_is s b there in
-    let a = rw z at g in
-    ap (λ (r : Tally). r.refusal)
-    (a.answer ∙ ap (λ (k : ℕ). tally_of k (multiples d (occurrences x (block s b)))) (accepts (ready_accepted (length (block s b)) ready (block_short s b there))))
+    unrefused (rw z at g) (ready_accepted (length (block s b)) ready (block_short s b there))
 
 -- A CHECK UNDER WAY can search for every probe
 pub run_ready : {m : ℕ} (u : Run) → m ≡ probe_size u.p → Ready m u.tables.now u.memory.now

@@ -204,13 +204,19 @@ pub record Counted (x y t e : List ℕ) (d : ℕ) (r : Tally) (t' e' : List ℕ)
   pub tables : Beyond (2 * length x) t t'
   pub memory : Beyond (length x) e e'
 
+-- an accepted search refuses nothing
+pub unrefused : {x y t e : List ℕ} {d : ℕ} {r : Tally} {t' e' : List ℕ} → Aligning x y t e d r t' e' → Accepted (length x) (length y) (length t) (length e) → r.refusal ≡ 0
+unfolding tally_of
+unrefused {x} {y} {d = d} g a =
+    ap (λ (r : Tally). r.refusal) (g.answer ∙ ap (λ (k : ℕ). tally_of k (multiples d (occurrences x y))) (accepts a))
+
 pub counted : {x y t e : List ℕ} {d : ℕ} {r : Tally} {t' e' : List ℕ} → Aligning x y t e d r t' e' → Accepted (length x) (length y) (length t) (length e)
     → Counted x y t e d r t' e'
 unfolding tally_of
 counted {x} {y} {t} {e} {d} {r} {t'} {e'} g a =
     let ps = multiples d (occurrences x y) in
     let q : r ≡ tally_of 0 ps = g.answer ∙ ap (λ (k : ℕ). tally_of k ps) (accepts a) in
-    let z : r.refusal ≡ 0 = ap (λ (r : Tally). r.refusal) q in
+    let z : r.refusal ≡ 0 = unrefused g a in
     let number : r.number ≡ length ps = ap (λ (r : Tally). r.number) q in
     let first : r.first ≡ first_of ps = ap (λ (r : Tally). r.first) q in
     record {
