@@ -3,7 +3,7 @@
 use Rattle.std.proofs.Common.{rules, refl, arith}
 use Rattle.std.proofs.lemmas.Result.{err_from_is_err_and}
 use Rattle.basics.specs.laws.Refusal.{number_above}
-use Rattle.pairs.specs.laws.Promise.{refused_is, granted, found_few, done_is}
+use Rattle.pairs.specs.laws.Promise.{refused_is, granted, found_few, done_run}
 use Rattle.pairs.proofs.check.Goals as goal
 
 pub returns-in_err-count : goal.returns-in_err-count
@@ -32,5 +32,5 @@ overflow_cast-found c = omega (arith, found_few c.in_ok-count.ensures.cause refl
 
 pub returns : goal.returns
 returns c =
-    done_is c.in_ok-count.ensures.cause refl refl refl c.owners.ensures c.probe_size-size.ensures
+    done_run c.in_ok-count.ensures.cause refl refl refl c.owners.ensures c.probe_size-size.ensures
     (search rules) (search rules) (search rules) (search rules) (search rules)

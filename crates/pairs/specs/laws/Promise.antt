@@ -1,9 +1,9 @@
 -- From what was found to what the check promises. Assumes nothing.
-use Rattle.std.specs.Prelude.{◌≡◌, refl, List, ◌++◌, ℕ, zero, suc, ◌*◌, ◌≤◌, length, drop, replicate}
+use Rattle.std.specs.Prelude.{◌≡◌, refl, List, ◌++◌, ℕ, zero, suc, ◌*◌, ◌≤◌, min, length, drop, replicate}
 use Rattle.std.proofs.Common.{sym, ap, ◌∙◌, arith}
 use Rattle.std.proofs.lemmas.List.{length-replicate}
 use Rattle.basics.specs.Rooms.{front}
-use Rattle.basics.specs.laws.Rooms.{Beyond, room_kept}
+use Rattle.basics.specs.laws.Rooms.{beyond_cleared, room_kept}
 use Rattle.basics.specs.Refusal.{Cause}
 use Rattle.drawlog.specs.Log.{count}
 use Rattle.drawlog.specs.Promise.{Tested, tested_of}
@@ -11,7 +11,7 @@ use Rattle.pairs.specs.Check.{probe_size, Pair, pairs, unprobed, numbers}
 use Rattle.pairs.specs.Refusal.{table_size, cause_of}
 use Rattle.pairs.specs.Promise.{step, checked_of, cause, Checking}
 use Rattle.pairs.specs.declared.run.Run.{Run}
-use Rattle.pairs.specs.Inside.{Ready, Onward}
+use Rattle.pairs.specs.Inside.{Worked, Ready, Found, Onward}
 use Rattle.basics.specs.laws.Inlaid.{inlaid_front}
 use Rattle.pairs.specs.laws.Check.{tested_count, tested_few, pairs-most}
 use Rattle.pairs.specs.laws.Refusal.{Allowed, cause-none}
@@ -79,23 +79,37 @@ found_few {u = u} q z0 none g =
     omega (arith, g.found.number, ap (λ (c : ℕ). length (pairs step u.p u.log.now c)) e, pairs-most step u.p u.log.now (omega (arith, e, u.counted, tested_few u.log.now)))
 
 -- and what they give once the work rooms are cleared
-cleared_is : (m : ℕ) {d d₁ ys : List ℕ} → Beyond m d d₁ → ys ≡ replicate m 0 → ys ++ drop m d₁ ≡ front (replicate m 0) d
-cleared_is m b e = rw (e, length-replicate {A = ℕ} m 0) (ap (λ (r : List ℕ). replicate m 0 ++ r) b.rest)
+pub done_is : {s : List ℕ} {p c n u z : ℕ} {t e d t₁ e₁ t₂ e₂ d₁ : List ℕ} {k : Cause} → k ≡ cause s p t e d → k.refusal ≡ 0 → c ≡ (tested_of s).count → z ≡ probe_size p
+    → Found (pairs step p s c) 0 d n d₁ → u ≡ unprobed p s c → Worked (probe_size p) t e t₁ e₁
+    → t₂ ≡ front (replicate (min (2 * z) (length t₁)) 0) t₁ → e₂ ≡ front (replicate (min z (length e₁)) 0) e₁
+    → Checking s p t e d (record { refusal = 0; entry = 0; pairs = n; unprobed = u }) t₂ e₂ d₁
+unfolding checked_of
+done_is {s} {p} {c} {n} {u} {z} {t} {e} {d} {t₁} {e₁} {t₂} {e₂} {d₁} {k} q z0 ec ez found eu worked ct ce =
+    let none : (cause s p t e d).refusal ≡ 0 = ap (λ (k : Cause). k.refusal) (sym q) ∙ z0 in
+    let given : Granted s p t e d = granted q z0 in
+    let all : c ≡ count s = ec ∙ given.number in
+    let g : Found (pairs step p s (count s)) 0 d n d₁ = rw all at found in
+    let en : n ≡ length (pairs step p s (count s)) = omega (arith, g.number) in
+    let eu' : u ≡ unprobed p s (count s) = rw all at eu in
+    record {
+      answer = rw none (λ i. record { refusal = 0; entry = 0; pairs = en i; unprobed = eu' i });
+      tables = beyond_cleared given.ready.tables worked.tables (2 * z) (ap (λ (m : ℕ). 2 * m) ez) ct;
+      memory = beyond_cleared given.ready.memory worked.memory z ez ce;
+      result = inlaid_front g.laid;
+    }
 
-pub done_is : {k : Cause} {u v : Run} {z : ℕ} {t₁ e₁ d₁ ys zs : List ℕ} → k ≡ cause u.log.now u.p u.tables.now u.memory.now u.res.now → k.refusal ≡ 0
+-- the same of a check under way
+padded : (m : ℕ) (d : List ℕ) {ys : List ℕ} → m ≤ length d → ys ≡ replicate m 0 → ys ++ drop m d ≡ front (replicate (min m (length d)) 0) d
+padded m d h e = let q : min m (length d) ≡ m = omega arith in rw (q, e, length-replicate {A = ℕ} m 0) refl
+
+pub done_run : {k : Cause} {u v : Run} {z : ℕ} {t₁ e₁ d₁ ys zs : List ℕ} → k ≡ cause u.log.now u.p u.tables.now u.memory.now u.res.now → k.refusal ≡ 0
     → u.pairs ≡ 0 → u.unprobed ≡ 0 → Onward (pairs step u.p u.log.now u.count) (unprobed u.p u.log.now u.count) u v → z ≡ probe_size u.p
     → t₁ ≡ v.tables.now → e₁ ≡ v.memory.now → d₁ ≡ v.res.now → ys ≡ replicate (2 * z) 0 → zs ≡ replicate z 0
     → Checking u.log.now u.p u.tables.now u.memory.now u.res.now (record { refusal = 0; entry = 0; pairs = v.pairs; unprobed = v.unprobed }) (ys ++ drop (2 * z) t₁) (zs ++ drop z e₁) d₁
-unfolding checked_of
-done_is {k} {u} {v} {z} q z0 none first g ez et ee ed ey ex =
-    let s : List ℕ = u.log.now in
-    let zero : (cause s u.p u.tables.now u.memory.now u.res.now).refusal ≡ 0 = ap (λ (k : Cause). k.refusal) (sym q) ∙ z0 in
-    let all : u.count ≡ count s = u.counted ∙ (granted q z0).number in
-    let en : v.pairs ≡ length (pairs step u.p s (count s)) = omega (arith, g.found.number, ap (λ (c : ℕ). length (pairs step u.p s c)) all) in
-    let eu : v.unprobed ≡ unprobed u.p s (count s) = omega (arith, g.unprobed, ap (unprobed u.p s) all) in
-    record {
-      answer = rw zero (λ i. record { refusal = 0; entry = 0; pairs = en i; unprobed = eu i });
-      tables = rw (et, ez) (cleared_is (2 * probe_size u.p) g.worked.tables (rw ez at ey));
-      memory = rw (ee, ez) (cleared_is (probe_size u.p) g.worked.memory (rw ez at ex));
-      result = ed ∙ inlaid_front (rw (none, all) at g.found.laid);
-    }
+done_run {u = u} {v = v} {z = z} q z0 none first g ez et ee ed ey ex =
+    let given : Granted u.log.now u.p u.tables.now u.memory.now u.res.now = granted q z0 in
+    let missed : v.unprobed ≡ unprobed u.p u.log.now u.count = omega (arith, g.unprobed, first) in
+    rw (et, ee, ed)
+    (done_is q z0 u.counted ez (rw none at g.found) missed g.worked
+     (padded (2 * z) _ (omega (arith, ez, given.ready.tables, g.worked.tables.size)) ey)
+     (padded z _ (omega (arith, ez, given.ready.memory, g.worked.memory.size)) ex))

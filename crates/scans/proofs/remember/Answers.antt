@@ -3,7 +3,7 @@
 use Rattle.std.proofs.Common.{ap, ◌∙◌}
 use Rattle.scans.specs.inside.Search.{answer_by}
 use Rattle.scans.specs.laws.Refusal.{handed_on}
-use Rattle.scans.specs.laws.Search.{remember_is, remember_refused}
+use Rattle.scans.specs.laws.Search.{remember_served, remember_refused}
 use Rattle.scans.proofs.remember.Goals as goal
 
 pub returns-in_err-run : goal.returns-in_err-run
@@ -13,4 +13,4 @@ returns-in_err-run c =
 pub returns : goal.returns
 returns c =
     let s = c.search in
-    remember_is c.in_ok-run.ensures (c.answer.ensures ∙ ap (answer_by c.in_ok-run.run') s.auto.positions)
+    remember_served c.in_ok-run.ensures (c.answer.ensures ∙ ap (answer_by c.in_ok-run.run') s.auto.positions)

@@ -1,11 +1,11 @@
 -- From what a search gives to what its call promises. Assumes nothing.
-use Rattle.std.specs.Prelude.{◌≡◌, refl, cond, eqb, List, [], ◌∷◌, ℕ, zero, suc, ◌*◌, ◌≤◌, ◌<◌, length, replicate, Option, Some, None, Result, Ok, Err}
+use Rattle.std.specs.Prelude.{◌≡◌, refl, cond, eqb, List, [], ◌∷◌, ℕ, zero, suc, ◌*◌, ◌≤◌, ◌<◌, length, replicate, Option, Some, None, Result, Ok, Err, IfOk}
 use Rattle.std.proofs.Common.{sym, ap, subst, ◌∙◌, arith}
 use Rattle.std.proofs.lemmas.List.{length-replicate}
 use Rattle.std.proofs.lemmas.Bool.{ne_eqb}
 use Rattle.basics.specs.declared.refusal.Refusal.{Refusal}
-use Rattle.basics.specs.Refusal.{number_of}
-use Rattle.basics.specs.laws.Refusal.{number_above}
+use Rattle.basics.specs.Refusal.{number_of, refusal_seen}
+use Rattle.basics.specs.laws.Refusal.{number_above, number_same}
 use Rattle.basics.specs.Lists.{at}
 use Rattle.basics.specs.Rooms.{front, room_after}
 use Rattle.basics.specs.laws.Rooms.{Beyond, room_kept, begins_front, beyond_front}
@@ -107,9 +107,9 @@ ready {x} y {e} {t} {occ} {t'} g =
     )
 
 -- THE PROMISES, out of what was prepared and what was searched
-pub plain_is : {x y t d occ t' d' : List ℕ} {run : Run} {a : Six} → Preparing x (length y) (length x) t (Ok occ) t' → run ≡ run_of 1 (plain x y)
+pub plain_served : {x y t d occ t' d' : List ℕ} {run : Run} {a : Six} → Preparing x (length y) (length x) t (Ok occ) t' → run ≡ run_of 1 (plain x y)
     → a ≡ answer_by run (length d) → d' ≡ reported (places_of 1 (plain x y)) d → Plainly x y t d (answer_seen (Ok a)) t' d'
-plain_is {x} {y} {t} {d} g e made places =
+plain_served {x} {y} {t} {d} g e made places =
     let ws = plain x y in
     record {
       answer = ap (λ (a : Six). answer_seen (Ok a)) made ∙ answer_of_run ws (length d) e ∙ ap (λ (k : ℕ). answer_of k ws (length d)) g.refusal;
@@ -126,6 +126,16 @@ plain_refused {x} {y} {t} {d} {f = f} g =
       places = kept_places f (positions ws) d;
     }
 
+-- of whatever was prepared
+pub plain_is : {x y t d t' d' : List ℕ} (p : Result (List ℕ) Refusal) (r : Result Six Refusal) → Preparing x (length y) (length x) t p t'
+    → refusal_seen r ≡ refusal_seen p → IfOk r (λ a. a ≡ answer_by (run_of 1 (plain x y)) (length d))
+    → d' ≡ reported_after (refusal_seen p) (places_of 1 (plain x y)) d → Plainly x y t d (answer_seen r) t' d'
+plain_is (Ok occ) (Ok a) g e made places = plain_served g refl made places
+plain_is (Ok occ) (Err f) g e made places = absurd (no_zero f e)
+plain_is (Err f) (Ok a) g e made places = absurd (no_zero f (sym e))
+plain_is {x} {y} {d = d} (Err f) (Err f') g e made places =
+    rw (number_same f' f e, places ∙ sym (kept_places f (places_of 1 (plain x y)) d)) (plain_refused g)
+
 pub search_is : {x y t e d occ t' e' d' : List ℕ} {step : ℕ} {run : Run} → Preparing x (length y) (length e) t (Ok occ) t' → run ≡ run_of step (remembering x y)
     → e' ≡ front (replicate (length x) 0) e → d' ≡ reported (places_of step (remembering x y)) d → Searching x y t e d step (Ok run) t' e' d'
 search_is g q memory places = record { refusal = g.refusal; run = q; tables = g.tables; memory = memory; places = places }
@@ -140,9 +150,9 @@ search_refused {x} {y} {e = e} {d = d} {step = step} {f = f} g =
       places = kept_places f (places_of step (remembering x y)) d;
     }
 
-pub remember_is : {x y t e d t' e' d' : List ℕ} {run : Run} {a : Six} → Searching x y t e d 1 (Ok run) t' e' d' → a ≡ answer_by run (length d)
+pub remember_served : {x y t e d t' e' d' : List ℕ} {run : Run} {a : Six} → Searching x y t e d 1 (Ok run) t' e' d' → a ≡ answer_by run (length d)
     → Rememberingly x y t e d (answer_seen (Ok a)) t' e' d'
-remember_is {x} {y} {d = d} g made =
+remember_served {x} {y} {d = d} g made =
     let ws = remembering x y in
     record {
       answer = ap (λ (a : Six). answer_seen (Ok a)) made ∙ answer_of_run ws (length d) g.run ∙ ap (λ (k : ℕ). answer_of k ws (length d)) g.refusal;
@@ -161,6 +171,13 @@ remember_refused {x} {y} {d = d} {f = f} g =
       places = rw (← multiples_one (positions ws)) g.places;
     }
 
+pub remember_is : {x y t e d t' e' d' : List ℕ} (q : Result Run Refusal) (r : Result Six Refusal) → Searching x y t e d 1 q t' e' d'
+    → refusal_seen r ≡ refusal_seen q → IfOk r (λ a. IfOk q (λ run. a ≡ answer_by run (length d))) → Rememberingly x y t e d (answer_seen r) t' e' d'
+remember_is (Ok run) (Ok a) g e made = remember_served g made
+remember_is (Ok run) (Err f) g e made = absurd (no_zero f e)
+remember_is (Err f) (Ok a) g e made = absurd (no_zero f (sym e))
+remember_is (Err f) (Err f') g e made = rw (number_same f' f e) (remember_refused g)
+
 -- positions of the scan are the occurrences
 places_are : (x y t e : List ℕ) (step : ℕ) → 0 ≡ refusal_of (length x) (length y) (length t) (length e) → places_of step (remembering x y) ≡ multiples step (occurrences x y)
 places_are x y t e step c =
@@ -172,9 +189,9 @@ no_refusal None = refl
 no_refusal (Some t) = refl
 
 -- the first place stands in a room of one entry
-pub aligned_is : {x y t e t' e' d' : List ℕ} {step : ℕ} {run : Run} {a : Option Places} → Searching x y t e (0 ∷ []) step (Ok run) t' e' d'
+pub aligned_served : {x y t e t' e' d' : List ℕ} {step : ℕ} {run : Run} {a : Option Places} → Searching x y t e (0 ∷ []) step (Ok run) t' e' d'
     → a ≡ tally_by run (at d' 0) → Aligning x y t e step (tally_seen (Ok a)) t' e'
-aligned_is {x} {y} {t} {e} {t'} {e'} {step = step} {a = a} g made =
+aligned_served {x} {y} {t} {e} {t'} {e'} {step = step} {a = a} g made =
     let ws = remembering x y in
     let z : 0 ≡ (tally_seen (Ok a)).refusal = sym (no_refusal a) in
     record {
@@ -194,6 +211,13 @@ aligned_refused {x} {y} {step = step} {f = f} g =
       tables = g.tables;
       memory = g.memory;
     }
+
+pub aligned_is : {x y t e t' e' d' : List ℕ} {step : ℕ} (q : Result Run Refusal) (r : Result (Option Places) Refusal) → Searching x y t e (0 ∷ []) step q t' e' d'
+    → refusal_seen r ≡ refusal_seen q → IfOk r (λ a. IfOk q (λ run. a ≡ tally_by run (at d' 0))) → Aligning x y t e step (tally_seen r) t' e'
+aligned_is (Ok run) (Ok a) g e made = aligned_served g made
+aligned_is (Ok run) (Err f) g e made = absurd (no_zero f e)
+aligned_is (Err f) (Ok a) g e made = absurd (no_zero f (sym e))
+aligned_is (Err f) (Err f') g e made = rw (number_same f' f e) (aligned_refused g)
 
 -- FOR THE LAYERS ABOVE: what an accepted search for the places at multiples of a step tells, without its tables
 pub record Counted (x y t e : List ℕ) (d : ℕ) (r : Tally) (t' e' : List ℕ) : Type 0 where
