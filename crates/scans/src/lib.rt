@@ -79,19 +79,15 @@ pub fn plain(
     ensures { Plainly probe.now stream.now tables.old positions.old (answer_seen result)
         tables.new positions.new }
 {
-    match &prepare(probe, stream.len(), probe.len(), tables) {
-        Ok(occ) => {
-            let scan = Scan {
-                probe,
-                stream,
-                tables,
-                occ,
-            };
-            let run = scan.plainly(positions);
-            Ok(run.answer(positions.len()))
-        }
-        Err(refusal) => Err(*refusal),
-    }
+    let occ = prepare(probe, stream.len(), probe.len(), tables)?;
+    let scan = Scan {
+        probe,
+        stream,
+        tables,
+        occ: &occ,
+    };
+    let run = scan.plainly(positions);
+    Ok(run.answer(positions.len()))
 }
 
 // Searches the stream for the probe by the remembering scan.
@@ -138,18 +134,14 @@ fn search(
     ensures { Searching probe.now stream.now tables.old memory.old positions.old step result
         tables.new memory.new positions.new }
 {
-    match &prepare(probe, stream.len(), memory.len(), tables) {
-        Ok(occ) => {
-            let scan = Scan {
-                probe,
-                stream,
-                tables,
-                occ,
-            };
-            Ok(scan.remembering(memory, positions, step))
-        }
-        Err(refusal) => Err(*refusal),
-    }
+    let occ = prepare(probe, stream.len(), memory.len(), tables)?;
+    let scan = Scan {
+        probe,
+        stream,
+        tables,
+        occ: &occ,
+    };
+    Ok(scan.remembering(memory, positions, step))
 }
 
 // Looks for a cause to refuse, and writes the tables where there is none: the occurrence table is what it gives. The stream
