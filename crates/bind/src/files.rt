@@ -1,7 +1,7 @@
 // The blocks, out of the files: each file's bytes behind those of the file before it.
 ghost use Rattle.std.specs.Prelude.{◌≡◌, ◌≤◌, length, IfOk, IfSome};
 ghost use Rattle.writer.specs.Made.{sum_to};
-ghost use Rattle.bind.specs.Inside.{most, blocks_size};
+ghost use Rattle.bind.specs.Inside.{most, word_size, blocks_size};
 
 use crate::{Failure, PAIR, argument};
 use std::fs::File;
@@ -19,7 +19,7 @@ pub(crate) fn take(
     blocks: &mut [u8],
     word: &mut [u8],
 ) -> Result<usize, Failure>
-    requires { (length lengths.old ≤ most) × (length blocks.old ≡ blocks_size) }
+    requires { (length lengths.old ≤ most) × (length blocks.old ≡ blocks_size) × (length word.old ≡ word_size) }
     ensures { IfOk result (λ end. (end ≤ blocks_size) × (sum_to lengths.new (length lengths.new) ≡ end)) }
 {
     let mut end = 0;

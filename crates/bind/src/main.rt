@@ -13,11 +13,12 @@
 // Nothing is written before everything is read, so a FILE may be LOG itself.
 #![tactic(auto)]
 
-ghost use Rattle.std.specs.Prelude.{◌≡◌, ◌≤◌, length};
+ghost use Rattle.std.specs.Prelude.{◌≡◌, ◌+◌, ◌≤◌, length};
 ghost use Rattle.writer.specs.Made.{sum_to};
 ghost use Rattle.binding.specs.Said.{name_of};
+ghost use Rattle.binding.specs.Promise.{longest};
 ghost use Rattle.bind.specs.declared.Failure.TheVariants.{Refused};
-ghost use Rattle.bind.specs.Inside.{most, too_many};
+ghost use Rattle.bind.specs.Inside.{most, too_many, word_size, line_size};
 
 mod files; // files.rt: reads the blocks
 mod store; // store.rt: writes the log
@@ -34,7 +35,8 @@ const FIRST_ID: usize = 2;
 
 const PAIR: usize = 2;
 
-// The most bytes of an argument on Linux, so that each is read whole.
+// The most bytes of an argument on Linux, so that each is read whole. Who is handed the word asks for `word_size` bytes, by a
+// clause: the type of an array would take its length from here, whatever it is.
 const WORD: usize = 131072;
 
 // A line holds one argument at most.
@@ -83,9 +85,11 @@ fn main(rt: HostRuntime) {
     let _ = rt.write_all(&line[..said]);
 }
 
-// What is said of the outcome; an argument that it names is put into the word once more.
+// What is said of the outcome; an argument that it names is put into the word once more. So no line is longer than
+// `line_size`.
 fn message<'a>(rt: HostRuntime, outcome: Result<Bound, Failure>, word: &'a mut [u8]) -> Message<'a>
-    ensures { length (name_of result) ≤ length word.old }
+    requires { length word.old ≡ word_size }
+    ensures { longest + length (name_of result) ≤ line_size }
 {
     match outcome {
         Ok(Bound { replicates, bytes }) => Message::Bound { replicates, bytes },
@@ -101,7 +105,9 @@ fn message<'a>(rt: HostRuntime, outcome: Result<Bound, Failure>, word: &'a mut [
 }
 
 // Binds what the arguments name.
-fn run(rt: HostRuntime, word: &mut [u8]) -> Result<Bound, Failure> {
+fn run(rt: HostRuntime, word: &mut [u8]) -> Result<Bound, Failure>
+    requires { length word.old ≡ word_size }
+{
     let given = arguments(rt);
     if given < FIRST_ID || (given - FIRST_ID) % PAIR != 0 {
         return Err(Failure::Usage);
@@ -132,7 +138,7 @@ fn argument(rt: HostRuntime, i: usize, word: &mut [u8]) -> &[u8]
 // Binds so many replicates. That they are at most `too_many` is a clause: two contracts say it of a number and two of the
 // length of a slice, and a type for each would be no plainer.
 fn bind(rt: HostRuntime, replicates: usize, word: &mut [u8]) -> Result<Bound, Failure>
-    requires { replicates ≤ too_many }
+    requires { (replicates ≤ too_many) × (length word.old ≡ word_size) }
 {
     let mut ids = [0u32; REPLICATES];
     let mut lengths = [0u32; REPLICATES];
@@ -164,7 +170,7 @@ fn files_of(replicates: usize) -> usize
 
 // Reads an id for each entry of the room.
 fn take_ids(rt: HostRuntime, ids: &mut [u32], word: &mut [u8]) -> Result<(), Failure>
-    requires { length ids.old ≤ too_many }
+    requires { (length ids.old ≤ too_many) × (length word.old ≡ word_size) }
 {
     for k in 0..ids.len() {
         let i = FIRST_ID + PAIR * k;
@@ -181,7 +187,7 @@ fn stored(
     lengths: &[u32],
     word: &mut [u8],
 ) -> Result<Bound, Failure>
-    requires few { length ids.now ≤ too_many }
+    requires few { (length ids.now ≤ too_many) × (length word.old ≡ word_size) }
     requires whole { (length ids.now ≡ length lengths.now) × (length ids.now ≤ most → sum_to lengths.now (length ids.now) ≡ length blocks.now) }
 {
     let mut room = [0u8; ROOM];

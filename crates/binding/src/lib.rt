@@ -7,7 +7,7 @@
 // Each text is put from the front of the buffer on, as far as it reaches, and its whole length is answered.
 #![tactic(auto)]
 
-ghost use Rattle.std.specs.Prelude.{◌≡◌, ◌+◌, ◌≤◌, ◌<◌, IfSome, length, take};
+ghost use Rattle.std.specs.Prelude.{◌≡◌, ◌+◌, ◌*◌, ◌≤◌, ◌<◌, IfSome, SomeIff, length, take};
 ghost use Rattle.binding.specs.Ids.{limit, id_of, id_seen};
 ghost use Rattle.binding.specs.Beside.{folder_end, beside_name};
 ghost use Rattle.binding.specs.Said.{name_line, text_of, name_of};
@@ -48,6 +48,13 @@ fn next(value: u32, b: u8) -> Option<u32>
     ensures below { IfSome result (λ v. v < limit) }
 {
     let digit = char::from(b).to_digit(BASE)?;
+    longer(value, digit)
+}
+
+// The value with the digit behind it; none where that is too great.
+fn longer(value: u32, digit: u32) -> Option<u32>
+    ensures { SomeIff result (value * 10 + digit < limit) (value * 10 + digit) }
+{
     value.checked_mul(BASE)?.checked_add(digit)
 }
 

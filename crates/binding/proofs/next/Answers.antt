@@ -28,17 +28,9 @@ checked None n s = omega arith
 pub returns-in_err-digit-clause-value : goal.returns-in_err-digit-clause-value
 returns-in_err-digit-clause-value c = rw c.from_residual.ensures (no_digit c.args.value c.args.b (rw c.from.ensures at c.in_err-digit.ensures.cases))
 
-pub returns-in_err-checked_mul-clause-value : goal.returns-in_err-checked_mul-clause-value
-returns-in_err-checked_mul-clause-value c =
-    let d = c.in_ok-digit in
-    let e = ten c.from.result d.digit (omega (arith, d.ensures.value)) d.ensures.cases in
-    rw c.from_residual-in_err-checked_mul.ensures
-    (omega (arith, c.in_err-checked_mul.ensures, with_digit c.args.value c.args.b d.digit (omega (arith, d.ensures.value)) (omega (arith, e, c.from.ensures))))
-
 pub returns-clause-value : goal.returns-clause-value
 returns-clause-value c =
     let d = c.in_ok-digit in
     let e = ten c.from.result d.digit (omega (arith, d.ensures.value)) d.ensures.cases in
-    let n : c.in_ok-checked_mul.field-0 ≡ c.args.value * 10 = c.in_ok-checked_mul.ensures.1 in
-    checked c.checked_add.result (c.in_ok-checked_mul.field-0 + d.digit) c.checked_add.ensures
-    ∙ rw n (with_digit c.args.value c.args.b d.digit (omega (arith, d.ensures.value)) (omega (arith, e, c.from.ensures)))
+    checked c.longer.result (c.args.value * 10 + d.digit) c.longer.ensures
+    ∙ with_digit c.args.value c.args.b d.digit (omega (arith, d.ensures.value)) (omega (arith, e, c.from.ensures))

@@ -2,11 +2,11 @@
 use Rattle.std.specs.Prelude.{◌≡◌, List, ℕ, ◌+◌, ◌≤◌, ◌<◌, length}
 use Rattle.std.proofs.Common.{arith, length-append}
 use Rattle.lines.specs.Line.{numbers_line}
-use Rattle.lines.proofs.Line.{numbers-length}
+use Rattle.lines.proofs.Line.{numbers-length, numbers_some}
 use Rattle.lines.specs.laws.Put.{after_short, after_some}
 use Rattle.binding.specs.declared.Message.{Message}
 use Rattle.binding.specs.declared.Message.TheVariants.{Bound, Refused, Unread, Unwritten, BadId, Usage}
-use Rattle.binding.specs.Said.{unread_word, unwritten_word, bad_id_word, name_line, usage_line, text_of}
+use Rattle.binding.specs.Said.{bound_word, refused_word, unread_word, unwritten_word, bad_id_word, name_line, usage_line, text_of}
 use Rattle.binding.specs.Promise.{longest, Said}
 
 pub name_length : (w name : List ℕ) → length (name_line w name) ≡ 1 + length w + length name
@@ -30,9 +30,9 @@ module _ {d : List ℕ} {r : ℕ} {d' : List ℕ} where
 
 -- what is said is a line
 pub text_some : (m : Message) → 0 < length (text_of m)
-unfolding numbers_line usage_line
-text_some (Bound replicates bytes) = simp length-append (omega arith)
-text_some (Refused refusal entry) = simp length-append (omega arith)
+unfolding usage_line
+text_some (Bound replicates bytes) = numbers_some bound_word replicates bytes
+text_some (Refused refusal entry) = numbers_some refused_word refusal entry
 text_some (Unread file) = omega (arith, name_length unread_word file.now)
 text_some (Unwritten log) = omega (arith, name_length unwritten_word log.now)
 text_some (BadId text) = omega (arith, name_length bad_id_word text.now)
