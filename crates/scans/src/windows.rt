@@ -82,7 +82,7 @@ impl Window<'_> {
     {
         let last = self.scan.probe.len() - 1;
         let low = top.saturating_sub(self.at);
-        // Counted down, and not by `ahead`: by that the scan of a stream with a short period took 1.2 times as long.
+        // Counted down, and not by `ahead`: that made 1.07 times as many instructions of a stream of period 3.
         for i in (low..last).rev() {
             if !meet(self.scan.stream[self.at + i], self.scan.probe[i], count) {
                 return Passed {
