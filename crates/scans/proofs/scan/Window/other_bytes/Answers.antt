@@ -1,10 +1,7 @@
-use Rattle.std.proofs.Common.{◌∙◌, ◌-◌, refl, sym, arith}
+use Rattle.std.proofs.Common.{◌∙◌, ◌-◌, sym, arith}
 use borrow.Author.Tests.{eqb-false}
 use Rattle.scans.specs.laws.Passes.{window_stops, window_goes_on}
 use Rattle.scans.proofs.scan.Window.other_bytes.Goals as goal
-
-pub loop-i-init : goal.loop-i-init
-loop-i-init c = record { from = omega (arith, c.saturating_sub-low.ensures, c.requires.quiet.under); counted = refl; alike = λ t l h. absurd (omega arith) }
 
 pub returns-then-not-meet-clause-pass : goal.returns-then-not-meet-clause-pass
 returns-then-not-meet-clause-pass c =
