@@ -111,5 +111,5 @@ done_run {u = u} {v = v} {z = z} q z0 none first g ez et ee ed ey ex =
     let missed : v.unprobed ≡ unprobed u.p u.log.now u.count = omega (arith, g.unprobed, first) in
     rw (et, ee, ed)
     (done_is q z0 u.counted ez (rw none at g.found) missed g.worked
-     (padded (2 * z) _ (omega (arith, ez, given.ready.tables, g.worked.tables.size)) ey)
-     (padded z _ (omega (arith, ez, given.ready.memory, g.worked.memory.size)) ex))
+    (padded (2 * z) _ (omega (arith, ez, given.ready.tables, g.worked.tables.size)) ey)
+    (padded z _ (omega (arith, ez, given.ready.memory, g.worked.memory.size)) ex))
