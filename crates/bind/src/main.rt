@@ -35,7 +35,7 @@ const FIRST_ID: usize = 2;
 
 const PAIR: usize = 2;
 
-// The most bytes of an argument on Linux, so that each is read whole. Who is handed the word asks for `word_size` bytes, by a
+// The most bytes of an argument on Linux, so that each is read whole. Who is handed the word, but `argument`, asks for its size by a
 // clause: the type of an array would take its length from here, whatever it is.
 const WORD: usize = 131072;
 
